@@ -4,10 +4,11 @@ use Rattle.std.proofs.Common.{true, false, length, map, get_or, arith}
 use Rattle.std.specs.Prelude.{All, AllPairs, Contains}
 use Rattle.std.proofs.lemmas.List.{get_or-map, get_or_default, length-map}
 use Rattle.byteorder.specs.Endian.{little_bytes}
+use Rattle.byteorder.specs.Numbers.{length-bytes_low_first}
 use Rattle.elf_image.specs.declared.segment.Segment.{Segment}
 use Rattle.elf_image.specs.declared.segment.TheConstants.{PHDR_SIZE}
 use Rattle.elf_image.specs.faults.FileFaults.{IsSound}
-use Rattle.elf_image.specs.file.Header.{segments_of}
+use Rattle.elf_image.specs.file.Header.{header_size, segments_of}
 use Rattle.elf_image.specs.file.ParsedFile.{IsElfOf}
 use Rattle.elf_image.specs.memory.Image.{LoadOnce}
 use Rattle.rv_code.specs.machine.MemoryNumbers.{number_in}
@@ -122,6 +123,30 @@ module _ (s : Source) (tight : Bool) (w : List ℕ) (read : IsElfOf s.elf.file.n
     table-size : length (segment_table made.segments) ≡ PHDR_SIZE * length made.segments
     table-size = length-segment_table made.segments
 
+    -- it ends before the tail
+    before-tail : (put_number i).offset + (put_number i).width ≤ size_of made.layout.parts
+    before-tail = cases tight refl
+      where
+        cases : (b : Bool) → tight ≡ b → (put_number i).offset + (put_number i).width ≤ size_of made.layout.parts
+        cases true e =
+            let stays : (put_number i).offset ≡ at =
+            moved_at ∙ moved-none made.layout.shift.from made.layout.shift.by at (by-tight s tight w read sound made e) in
+            let ends : segment.offset + segment.filesz ≤ loads_end s.elf.segments.items =
+            ends-below s.elf.segments.items segment (place i below).there (place i below).load has_bytes in
+            let keeps = (made.laid_out.above (tight-is s tight w read sound made ∙ e)).keeps in
+            let apart = made.laid_out.can.apart in
+            let behind = made.laid_out.can.behind in
+            omega (arith, stays, width, in_file, ends, keeps, apart, behind)
+        cases false e =
+            let from : at + wide_by ≤ segment.offset + segment.filesz = in_file in
+            let within : moved_by made.layout.parts.keep made.layout.shift.by at + wide_by ≤ size_of made.layout.parts =
+            stretch-within made.layout.parts s.elf.segments.items made.layout.shift.by (length s.elf.file.now)
+            (length made.layout.bytes.items) (parts-behind s tight w read sound made e) made.laid_out.can
+            segment at wide_by (place i below).there (place i below).load (some i below) (omega arith) from in
+            let same : moved_by made.layout.parts.keep made.layout.shift.by at ≡ (put_number i).offset =
+            ap (λ (k : ℕ). moved_by k made.layout.shift.by at) (keep-behind s tight w read sound made e) ∙ sym moved_at in
+            omega (arith, within, same, width)
+
     -- beside the table in a file with a new segment, where it stands behind all that is loaded
     beside-above : tight ≡ true → (made.program_headers_at + length (segment_table made.segments) ≤ (put_number i).offset)
         ⊎ ((put_number i).offset + (put_number i).width ≤ made.program_headers_at)
@@ -144,14 +169,8 @@ module _ (s : Source) (tight : Bool) (w : List ℕ) (read : IsElfOf s.elf.file.n
     beside-behind e false kept =
         let high : size_of made.layout.parts ≤ made.program_headers_at =
         made.table_place.added (tight-is s tight w read sound made ∙ e) kept in
-        let from : at + wide_by ≤ segment.offset + segment.filesz = in_file in
-        let within : moved_by made.layout.parts.keep made.layout.shift.by at + wide_by ≤ size_of made.layout.parts =
-        stretch-within made.layout.parts s.elf.segments.items made.layout.shift.by (length s.elf.file.now)
-        (length made.layout.bytes.items) (parts-behind s tight w read sound made e) made.laid_out.can
-        segment at wide_by (place i below).there (place i below).load (some i below) (omega arith) from in
-        let same : moved_by made.layout.parts.keep made.layout.shift.by at ≡ (put_number i).offset =
-        ap (λ (k : ℕ). moved_by k made.layout.shift.by at) (keep-behind s tight w read sound made e) ∙ sym moved_at in
-        inr (omega (arith, high, within, same, width))
+        let within = before-tail in
+        inr (omega (arith, high, within))
     beside-behind e true kept = cases beside.apart
       where
         not_tight : made.layout.area.tight ≡ false
@@ -207,7 +226,22 @@ module _ (s : Source) (tight : Bool) (w : List ℕ) (read : IsElfOf s.elf.file.n
         (crosses s tight w read sound made segment (place i below).there) to.0
         (subst (λ (xs : List Segment). Contains xs to.0) (sym (segments-written s tight w made)) to.1) to.2 (stands apart)
 
-  -- all of them
+  -- all of them lie after the header of the file, and before the tail
+  pub cells-between : All (λ p. (header_size ≤ p.offset) × (p.offset + length p.bytes ≤ size_of made.layout.parts))
+      (map patch_of made.cells)
+  cells-between i e inside =
+      let long : length (map patch_of made.cells) ≡ length made.cells = length-map made.cells patch_of in
+      let below : i < length s.cells = omega (arith, long, count, inside) in
+      let size = length-bytes_low_first 0 (put_number i).width (put_number i).value in
+      let within = before-tail i below in
+      let high = moved-above made.layout.shift.from made.layout.shift.by (at i below) in
+      let header = (beside i below).header in
+      let offset = moved_at i below in
+      subst (λ (p : Patch). (header_size ≤ p.offset) × (p.offset + length p.bytes ≤ size_of made.layout.parts))
+      (sym (get_or-map patch_of made.cells i none_number e (omega (arith, long, inside))))
+      (omega (arith, high, header, offset), omega (arith, size, within))
+
+  -- and hold what they have to
   pub cells-written : AllPairs AreApart s.cells →
       AreNewLoads made.layout.shift.from made.layout.shift.by s.elf.segments.items made.segments → LoadOnce (segments_of w) →
       All (λ c. number_in (memory_of (executable_of w)) c.0 c.1 ≡ Some c.2) s.cells

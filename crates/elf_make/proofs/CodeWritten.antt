@@ -41,9 +41,9 @@ use Rattle.elf_make.proofs.LaidOut.{stretch-beside}
 use Rattle.elf_make.proofs.Loads.{moved-before}
 use Rattle.elf_make.proofs.MadeHeaders.{joined, with_cells, headers, written-is, cells-within, headers-within, fields-in_header}
 use Rattle.elf_make.proofs.MadeHeaders.{segments-written}
-use Rattle.elf_make.proofs.MadeInput.{code-inside, moved-none, tight-is, by-tight, parts-behind, keep-behind}
+use Rattle.elf_make.proofs.MadeInput.{code-inside, moved-none, tight-is, by-tight, parts-behind, keep-behind, table-end}
 use Rattle.elf_make.proofs.MadeSegments.{HoldsArea, holds-area, count-more, area-holds_code, starts-above, starts-behind}
-use Rattle.elf_make.proofs.PlacesWritten.{table-end, count-same}
+use Rattle.elf_make.proofs.PlacesWritten.{count-same}
 use Rattle.elf_make.proofs.SameBreak.{rounded_up-above}
 use Rattle.elf_make.proofs.TableKept.{LoadsRange, loads-range}
 
@@ -187,7 +187,7 @@ module _ (s : Source) (tight : Bool) (w : List ℕ) (read : IsElfOf s.elf.file.n
   table-kept e true kept (inl low) =
       let at = made.table_place.kept (tight-is s tight w read sound made ∙ e) kept
       ∙ moved-before made.layout.shift.from made.layout.shift.by s.elf.phoff low in
-      let ends = table-end s tight w read sound made placed e low in
+      let ends = table-end s tight w read sound made low in
       let long = table-size in
       let count = count-same s tight w read sound made placed e in
       let keep = keep-behind s tight w read sound made e in

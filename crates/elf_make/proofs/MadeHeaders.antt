@@ -6,7 +6,8 @@ use Rattle.std.proofs.lemmas.List.{get_or-map, length-map}
 use Rattle.byteorder.specs.Endian.{little_bytes}
 use Rattle.byteorder.specs.Numbers.{length-bytes_low_first}
 use Rattle.elf_image.specs.declared.segment.Segment.{Segment}
-use Rattle.elf_image.specs.file.Header.{header_size, e_entry, e_phoff, e_phnum, e_shstrndx, segments_of}
+use Rattle.elf_image.specs.file.Header.{header_size, e_entry, e_phoff, e_phnum, e_shnum, e_shoff, e_shstrndx}
+use Rattle.elf_image.specs.file.Header.{segments_of}
 use Rattle.elf_parts.specs.declared.number_at.NumberAt.{NumberAt}
 use Rattle.elf_parts.specs.Assembly.{header_patches, PutsNumber, PutsTable}
 use Rattle.elf_parts.specs.Numbers.{CanPut, patch_of}
@@ -179,6 +180,24 @@ module _ (s : Source) (tight : Bool) (w : List ℕ) (made : IsMade s tight w) wh
   pub e_entry-written : e_entry w ≡ made.fields.entry
   e_entry-written = ap e_entry written-is
       ∙ number_at-put_all headers with_cells 0x18 8 made.fields.entry headers-within headers-apart puts-entry entry-fits
+
+  -- where the section headers stand, and how many there are
+  pub e_shoff-written : e_shoff w ≡ made.fields.section_headers_at
+  e_shoff-written =
+      ap e_shoff written-is
+      ∙ number_at-put_all headers with_cells 0x28 8 made.fields.section_headers_at headers-within headers-apart
+      (3, omega arith, refl)
+      (field-fits 2 (omega arith))
+
+  pub e_shnum-written : e_shnum w ≡ made.fields.sections
+  e_shnum-written =
+      ap e_shnum written-is
+      ∙ number_at-put_all headers with_cells 0x3c 2 made.fields.sections headers-within headers-apart (5, omega arith, refl)
+      (field-fits 4 (omega arith))
+
+  -- how long the file is
+  pub length-written : length w ≡ size_of made.layout.parts + length made.tail
+  length-written = ap length written-is ∙ length-put_all headers with_cells headers-within ∙ size-is
 
   -- the index of the section with the names of sections
   pub e_shstrndx-written : e_shstrndx w ≡ e_shstrndx s.elf.file.now

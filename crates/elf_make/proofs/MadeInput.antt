@@ -1,16 +1,18 @@
 -- What is known of the input of a file that was made, and of where its bytes went.
-use Rattle.std.proofs.Common.{◌≡◌, ◌∙◌, sym, ap, subst, refl, ℕ, ◌+◌, ◌≤◌, ◌<◌, ◌⊎◌, inl, inr, List, Option, Some, Bool, true}
+use Rattle.std.proofs.Common.{◌≡◌, ◌∙◌, sym, ap, subst, refl, ℕ, ◌+◌, ◌*◌, ◌≤◌, ◌<◌, ◌⊎◌, inl, inr, List, Option, Some, Bool, true}
 use Rattle.std.proofs.Common.{false, length, get_or, arith}
 use Rattle.std.specs.Prelude.{Contains}
 use Rattle.std.specs.Option.{option_map_or}
 use Rattle.std.proofs.lemmas.Bool.{cases_lt}
 use Rattle.elf_image.specs.declared.segment.Segment.{Segment}
 use Rattle.elf_image.specs.faults.FileFaults.{IsSound}
-use Rattle.elf_image.specs.file.Header.{segments_of}
+use Rattle.elf_image.specs.declared.segment.TheConstants.{PHDR_SIZE}
+use Rattle.elf_image.specs.file.Header.{e_phnum, segments_of}
 use Rattle.elf_image.specs.file.ParsedFile.{IsElfOf}
 use Rattle.elf_image.specs.memory.CodeSegment.{executable_segment}
 use Rattle.elf_image.specs.memory.Image.{LoadOnce}
 use Rattle.elf_image.specs.memory.Break.{rounded_up}
+use Rattle.elf_image.proofs.ReadLists.{length-segments_of}
 use Rattle.elf_plan.specs.declared.area.Area.{Area}
 use Rattle.elf_plan.specs.Area.{code_segment, loads_end, no_segment, moved_by, step_of}
 use Rattle.elf_make.specs.FileParts.{IsMade}
@@ -20,7 +22,7 @@ use Rattle.elf_make.specs.Source.{Source, source_area}
 use Rattle.elf_make.proofs.CellPlaces.{FileOnce}
 use Rattle.elf_make.proofs.LaidOut.{fit-behind}
 use Rattle.elf_make.proofs.Loads.{moved-behind, moved-before}
-use Rattle.elf_make.proofs.SoundFiles.{load_once, alone, code-at, code-below, crosses_not}
+use Rattle.elf_make.proofs.SoundFiles.{load_once, alone, code-at, code-below, crosses_not, table_crosses_not}
 use Rattle.elf_make.proofs.WrittenImages.{FitSegments}
 
 -- nothing moves to the front
@@ -105,3 +107,16 @@ module _ (s : Source) (tight : Bool) (w : List ℕ) (read : IsElfOf s.elf.file.n
 
   pub keep-behind : tight ≡ false → made.layout.parts.keep ≡ made.layout.shift.from
   keep-behind e = (made.laid_out.behind (tight-is ∙ e)).keeps
+
+  -- The table of program headers in the input.
+  pub table-count : e_phnum s.elf.file.now ≡ length ps
+  table-count = sym (length-segments_of s.elf.file.now) ∙ ap length ps-is
+
+  pub table-end : s.elf.phoff < made.layout.shift.from → s.elf.phoff + PHDR_SIZE * length ps ≤ made.layout.shift.from
+  table-end low =
+      let at = read.phoff in
+      let end = from-is in
+      let within = table_crosses_not s.elf.file.now sound made.layout.code made.laid_out.executable found-file
+      (omega (arith, at, end, low)) in
+      let count = table-count in
+      omega (arith, at, end, within, count)

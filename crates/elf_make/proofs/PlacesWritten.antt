@@ -15,7 +15,6 @@ use Rattle.elf_image.specs.file.ParsedFile.{IsElfOf}
 use Rattle.elf_image.specs.memory.Image.{is_load, end_of}
 use Rattle.elf_image.specs.memory.LoadedBytes.{loads_range}
 use Rattle.elf_image.specs.memory.Break.{table_address, break_start, break_bound, rounded_up}
-use Rattle.elf_image.proofs.ReadLists.{length-segments_of}
 use Rattle.elf_parts.specs.Parts.{size_of}
 use Rattle.elf_plan.specs.declared.area.Area.{Area}
 use Rattle.elf_plan.specs.Area.{code_file_end, file_end_of, lowest_behind, moved_by, area_offset}
@@ -32,9 +31,9 @@ use Rattle.elf_make.proofs.LaidOut.{stretch-within}
 use Rattle.elf_make.proofs.Loads.{moved-before, moved-behind}
 use Rattle.elf_make.proofs.MadeHeaders.{segments-written, e_phoff-written, e_phnum-written}
 use Rattle.elf_make.proofs.MadeInput.{ps-is, found-file, code-is, code-inside, code_segment-is, area-is, tight-is, from-is}
-use Rattle.elf_make.proofs.MadeInput.{by-is, address-tight, crosses, parts-behind, keep-behind}
+use Rattle.elf_make.proofs.MadeInput.{by-is, address-tight, crosses, parts-behind, keep-behind, table-count, table-end}
 use Rattle.elf_make.proofs.SameBreak.{GrowsUnwritten, KeepsBreak, break-kept, rounded_up-above, align-above}
-use Rattle.elf_make.proofs.SoundFiles.{code-load, code-whole, code-unwritable, table_crosses_not}
+use Rattle.elf_make.proofs.SoundFiles.{code-load, code-whole, code-unwritable}
 use Rattle.elf_make.proofs.TableKept.{GrowsTo, LoadsRange, StandsAlike, stays, moves, unloaded, loads-range, range-loads}
 use Rattle.elf_make.proofs.TableKept.{range_address, address-kept, had_bytes}
 
@@ -228,19 +227,6 @@ module _ (s : Source) (tight : Bool) (w : List ℕ) (read : IsElfOf s.elf.file.n
     some_headers : 0 < table_size
     some_headers = let inside = code-inside s tight w read sound made in omega (arith, inside)
 
-    count-is : e_phnum s.elf.file.now ≡ length ps
-    count-is = sym (length-segments_of s.elf.file.now) ∙ ap length (ps-is s tight w read sound made)
-
-    -- the table in the input
-    pub table-end : s.elf.phoff < from → s.elf.phoff + table_size ≤ from
-    table-end low =
-        let at = read.phoff in
-        let end = from-is s tight w read sound made in
-        let within = table_crosses_not s.elf.file.now sound made.layout.code code (found-file s tight w read sound made)
-        (omega (arith, at, end, low)) in
-        let count = count-is in
-        omega (arith, at, end, within, count)
-
     -- behind the executable segment it moves with the segment that loads it, behind the area
     table-behind : from ≤ s.elf.phoff → list_any (loads_range (table_of s.elf)) ps ≡ true → area_end ≤ s.elf.phoff + by
     table-behind behind found = cases (cases_lt x.offset from)
@@ -291,7 +277,7 @@ module _ (s : Source) (tight : Bool) (w : List ℕ) (read : IsElfOf s.elf.file.n
         cases true kept (inl low) =
             subst (StandsAlike from by area_end s.elf.phoff table_size ps made.are_headers.renewed)
             (sym (made.table_place.kept not_tight kept ∙ moved-before from by s.elf.phoff low))
-            (stays low (table-end low))
+            (stays low (table-end s tight w read sound made low))
         cases true kept (inr behind) =
             let found : list_any (loads_range (table_of s.elf)) ps ≡ true =
             ap (λ (b : Bool). b || list_any (loads_range (table_of s.elf)) ps) (sym (le-ltb s.elf.phoff from behind)) ∙ kept in
@@ -317,7 +303,7 @@ module _ (s : Source) (tight : Bool) (w : List ℕ) (read : IsElfOf s.elf.file.n
         before : table_address s.elf.file.now ≡ range_address s.elf.phoff table_size ps
         before =
             ap (λ (o : ℕ). range_address o (PHDR_SIZE * e_phnum s.elf.file.now) (segments_of s.elf.file.now)) (sym read.phoff)
-            ∙ ap (λ (n : ℕ). range_address s.elf.phoff (PHDR_SIZE * n) (segments_of s.elf.file.now)) count-is
+            ∙ ap (λ (n : ℕ). range_address s.elf.phoff (PHDR_SIZE * n) (segments_of s.elf.file.now)) (table-count s tight w read sound made)
             ∙ ap (λ (xs : List Segment). range_address s.elf.phoff table_size xs) (ps-is s tight w read sound made)
 
         after : table_address w ≡ range_address made.program_headers_at table_size made.are_headers.renewed

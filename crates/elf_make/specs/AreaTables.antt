@@ -3,6 +3,7 @@ use Rattle.std.specs.Prelude.{ℕ, ◌-◌, List, Bool, IfSome, String, Vec, cod
 use Rattle.elf_parts.specs.Patches.{Stands}
 use Rattle.elf_make.specs.declared.layout.Layout.{Layout}
 use Rattle.elf_make.specs.FileParts.{IsMade}
+use Rattle.elf_make.specs.MadeSections.{HasSections}
 use Rattle.elf_plan.specs.NewSections.{bytes_called}
 use Rattle.elf_make.specs.Source.{Source}
 
@@ -13,8 +14,9 @@ pub record HoldsTables {Y Z : Type 0} (tables : List (String Y × Vec ℕ Z)) (l
   pub index : IfSome layout.area.index
       (λ a. Stands layout.bytes.items (a - layout.area.start) (bytes_called tables (codes ".eh_frame_hdr")))
 
--- A file that was made, with these tables in its area.
+-- A file that was made, with these tables.
 pub record IsMadeWith {Y Z : Type 0} (s : Source) (tables : List (String Y × Vec ℕ Z)) (tight : Bool)
     (w : List ℕ) : Type 0 where
   pub made : IsMade s tight w
   pub has_tables : HoldsTables tables made.layout
+  pub sections : HasSections s tables tight w made

@@ -1,8 +1,10 @@
 -- What a written file is made of.
-use Rattle.std.specs.Prelude.{◌≡◌, ℕ, ◌+◌, ◌≤◌, Bool, true, false, List, [], ◌∷◌, Option, Some, All, length}
+use Rattle.std.specs.Prelude.{◌≡◌, ℕ, ◌+◌, ◌≤◌, ◌||◌, if◌then◌else◌, Bool, true, false, List, []}
+use Rattle.std.specs.Prelude.{◌∷◌, Option, Some, All, length}
 use Rattle.elf_image.specs.declared.elf.Elf.{Elf}
 use Rattle.elf_image.specs.declared.segment.Segment.{Segment}
 use Rattle.elf_image.specs.file.Header.{e_shstrndx}
+use Rattle.elf_image.specs.memory.Break.{rounded_up}
 use Rattle.elf_image.specs.memory.CodeSegment.{executable_segment}
 use Rattle.addr_map.specs.Spans.{moved}
 use Rattle.elf_parts.specs.declared.number_at.NumberAt.{NumberAt}
@@ -17,7 +19,7 @@ use Rattle.elf_make.specs.declared.header_fields.HeaderFields.{HeaderFields}
 use Rattle.elf_make.specs.declared.layout.Layout.{Layout}
 use Rattle.elf_plan.specs.Area.{area_of, shift_of, moved_by}
 use Rattle.elf_make.specs.CellNumbers.{AreCellNumbers}
-use Rattle.elf_plan.specs.FileLayout.{is_kept_table}
+use Rattle.elf_plan.specs.FileLayout.{is_kept_table, table_of}
 use Rattle.elf_plan.specs.NewSegments.{AreNewHeaders}
 use Rattle.elf_make.specs.PartPlaces.{IsAbove, IsBehind}
 use Rattle.elf_make.specs.Source.{Source}
@@ -42,6 +44,12 @@ pub record IsTablePlace (elf : Elf) (area : Area) (shift : Shift) (base at : ℕ
   pub above : area.tight ≡ true → at ≡ area.offset
   pub kept : area.tight ≡ false → is_kept_table elf shift ≡ true → at ≡ moved_by shift.from shift.by elf.phoff
   pub added : area.tight ≡ false → is_kept_table elf shift ≡ false → base ≤ at
+  pub rounded : area.tight ≡ false → is_kept_table elf shift ≡ false → at ≡ rounded_up 8 base
+
+-- where the contents of sections begin: with the tail, or after the table, if that is added
+abbrev pub start_after : Elf → Area → Shift → ℕ → ℕ
+start_after elf area shift base =
+    if area.tight || is_kept_table elf shift then base else rounded_up 8 base + (table_of elf).size
 
 -- a number of `width` bytes at `offset`
 abbrev pub number : ℕ → ℕ → ℕ → NumberAt

@@ -3,6 +3,10 @@ pub mod CarriedBytes
 pub mod CellNumbers
 pub mod FileParts
 pub mod FrontBytes
+pub mod MadeSections
+pub mod NamesAdded
 pub mod PartPlaces
+pub mod PlacedContents
+pub mod SectionTable
 pub mod Source
 pub mod WrittenFile

@@ -1,6 +1,12 @@
 // The section headers of a written file, and the contents behind its loaded bytes. gABI, "Section Header".
-ghost use Rattle.std.specs.Prelude.{◌≡◌, OnOk};
+ghost use Rattle.std.specs.Prelude.{◌≡◌, ◌≢◌, ◌+◌, ◌-◌, ◌<◌, ◌≤◌, ◌++◌, ℕ, List, All, AllPairs, IfOk, OnOk};
+ghost use Rattle.std.specs.Prelude.{length, map, slice_index_or};
+ghost use Rattle.elf_image.specs.declared.section.SectionHeader.{SectionHeader};
+ghost use Rattle.elf_parts.specs.Patches.{Stands};
+ghost use Rattle.elf_make.specs.PlacedContents.{ArePlaced, IsPlaced, bytes_at, set_header};
 ghost use Rattle.elf_image.specs.faults.Truncation.{IsReadable};
+ghost use Rattle.elf_image.specs.file.Header.{e_shnum};
+ghost use Rattle.elf_plan.specs.FileLayout.{added_ranges};
 ghost use Rattle.elf_plan.specs.Contents.{section_bytes};
 ghost use Rattle.elf_plan.specs.NewSections.{without_code};
 
@@ -39,6 +45,8 @@ pub struct NewContents<'a> {
     pub symbols: &'a [u8],
     pub symbol_names: &'a [u8],
     pub tables: &'a [Table],
+    /// The table of ranges that is added; no bytes if none is.
+    pub ranges: &'a [u8],
 }
 
 /// The headers of the input's sections, with new names, which are added to `names`, where sections are renamed.
@@ -48,6 +56,7 @@ pub fn old_headers(
     names: &mut NameTable,
 ) -> Result<Vec<SectionHeader>, Unwritable>
     requires { IsReadable elf.now.file.now }
+    ensures { IfOk result (λ headers. length headers.items ≡ e_shnum elf.now.file.now) }
 {
     let table = SectionTable { file: elf.file };
     let mut headers = Vec::new(alloc);
@@ -92,7 +101,9 @@ pub fn area_headers(
     area: &Area,
     tables: &[Table],
     names: &mut NameTable,
-) -> Result<(), Unwritable> {
+) -> Result<(), Unwritable>
+    ensures { OnOk result (length headers.old.items < length headers.new.items) }
+{
     let code = area.code_end.saturating_sub(area.start);
     let name = names.add(b".text", b"")?;
     let flags = SHF_ALLOC + SHF_EXECINSTR;
@@ -111,21 +122,61 @@ pub fn area_headers(
 }
 
 impl<'a> NewContents<'a> {
-    // The bytes that are written behind the loaded ones for `section`, whose contents are at `contents`, if any are.
-    fn written(&self, elf: &Elf<'a>, contents: Contents, section: &Section) -> Option<&'a [u8]> {
+    ghost use Rattle.std.specs.Prelude.{◌≡◌};
+    ghost use Rattle.elf_make.specs.PlacedContents.{bytes_at, written_bytes};
+    ghost use Rattle.elf_plan.specs.NewSections.{given_bytes};
+
+    // The bytes of the table at an index of those that are given.
+    fn given(&self, index: usize) -> &'a [u8]
+        ensures { result.now ≡ given_bytes self.now.tables.now index }
+    {
+        match self.tables.get(index) {
+            Some(table) => &table.1,
+            None => &[],
+        }
+    }
+
+    // The bytes that are written behind the loaded ones for `section`, whose contents are at `contents`.
+    fn written(&self, file: &'a [u8], contents: Contents, section: &Section) -> &'a [u8]
+        ensures { result.now ≡ written_bytes self.now file.now contents section.now }
+    {
         match contents {
-            Contents::Dropped | Contents::Inactive | Contents::Kept => None,
-            Contents::Copied => Some(bytes_of(elf.file, section)),
-            Contents::SectionNames => Some(self.section_names),
-            Contents::Symbols => Some(self.symbols),
-            Contents::SymbolNames => Some(self.symbol_names),
-            Contents::Given(table) => self.tables.get(table).map(|t| t.1.as_slice()),
+            Contents::Dropped | Contents::Inactive | Contents::Kept => &[],
+            Contents::Copied => bytes_of(file, section),
+            Contents::SectionNames => self.section_names,
+            Contents::Symbols => self.symbols,
+            Contents::SymbolNames => self.symbol_names,
+            Contents::Given(table) => self.given(table),
+        }
+    }
+
+    // Those of the section at `index`. An index past the input's sections means the added table of ranges.
+    fn bytes_at(&self, elf: &Elf<'a>, contents: &[Contents], index: usize) -> &'a [u8]
+        ensures { result.now ≡ bytes_at self.now elf.now contents.now index }
+    {
+        match (elf.sections.get(index), contents.get(index)) {
+            (Some(section), Some(contents)) => self.written(elf.file, *contents, section),
+            (Some(_), None) => &[],
+            (None, _) => self.ranges,
         }
     }
 }
 
 // The header of a section that is left out, of which the name and these flags are left.
-fn no_section(name: u32, flags: u64) -> SectionHeader {
+fn no_section(name: u32, flags: u64) -> SectionHeader
+    ensures { result ≡ record {
+      name = name;
+      kind = 0;
+      flags = flags;
+      addr = 0;
+      offset = 0;
+      size = 0;
+      link = 0;
+      info = 0;
+      align = 0;
+      entsize = 0;
+    } }
+{
     SectionHeader {
         name,
         kind: SHT_NULL,
@@ -147,7 +198,9 @@ pub fn set_contents(
     section: &Section,
     contents: Contents,
     shift: &Shift,
-) {
+)
+    ensures { header.new ≡ set_header shift.now contents section.now header.old }
+{
     match contents {
         Contents::Dropped => *header = no_section(header.name, flags_left(section)),
         Contents::Inactive => {}
@@ -176,13 +229,22 @@ fn place_bytes(
     bytes: &[u8],
     tail: &mut Tail,
 ) -> Result<(), Unwritable>
-    ensures { tail.new.base ≡ tail.old.base }
+    requires { index < length headers.old }
+    ensures base { tail.new.base ≡ tail.old.base }
+    ensures count { length headers.new ≡ length headers.old }
+    ensures others { (k : ℕ) (d : SectionHeader) → k ≢ index →
+        slice_index_or headers.new k d ≡ slice_index_or headers.old k d }
+    ensures here { OnOk result ((d : SectionHeader) →
+        IsPlaced tail.old.base (tail.old.base + length tail.old.bytes.items) bytes.now tail.new.bytes.items
+        (slice_index_or headers.old index d) (slice_index_or headers.new index d)) }
+    ensures end { OnOk result ((d : SectionHeader) → tail.new.base + length tail.new.bytes.items
+        ≡ (slice_index_or headers.new index d).offset + (slice_index_or headers.new index d).size) }
+    ensures keeps { OnOk result
+        ((o : ℕ) (xs : List ℕ) → Stands tail.old.bytes.items o xs → Stands tail.new.bytes.items o xs) }
 {
-    if index < headers.len() {
-        let place = tail.add(headers[index].align, bytes)?;
-        headers[index].offset = place;
-        headers[index].size = bytes.len() as u64;
-    }
+    let place = tail.add(headers[index].align, bytes)?;
+    headers[index].offset = place;
+    headers[index].size = bytes.len() as u64;
     Ok(())
 }
 
@@ -198,11 +260,9 @@ pub fn check_end<'a>(
 ) -> Result<(), Unwritable> {
     let mut end = start;
     for entry in order {
-        let i = entry.1;
-        if let (Some(section), Some(contents)) = (elf.sections.get(i), contents.get(i)) {
-            if let Some(bytes) = new.written(elf, *contents, section) {
-                end = end_behind(end, section.align, bytes.len())?;
-            }
+        if let Some(section) = elf.sections.get(entry.1) {
+            let bytes = new.bytes_at(elf, contents, entry.1);
+            end = end_behind(end, section.align, bytes.len())?;
         }
     }
     let most = (elf.file.len() as u64).saturating_mul(MOST_TIMES);
@@ -222,15 +282,69 @@ pub fn place_contents<'a>(
     headers: &mut [SectionHeader],
     tail: &mut Tail,
 ) -> Result<(), Unwritable>
-    ensures { OnOk result (tail.new.base ≡ tail.old.base) }
+    requires within { All (λ e. e.1 < length headers.old) order.now }
+    requires distinct { AllPairs (λ e f. e.1 ≢ f.1) order.now }
+    ensures base { OnOk result (tail.new.base ≡ tail.old.base) }
+    ensures placed { OnOk result (ArePlaced (bytes_at new.now elf.now contents.now) (map (λ e. e.1) order.now)
+        tail.old.base (tail.old.base + length tail.old.bytes.items) tail.new.bytes.items headers.old headers.new) }
+    ensures keeps { OnOk result
+        ((o : ℕ) (xs : List ℕ) → Stands tail.old.bytes.items o xs → Stands tail.new.bytes.items o xs) }
 {
     for entry in order {
-        let i = entry.1;
-        if let (Some(section), Some(contents)) = (elf.sections.get(i), contents.get(i)) {
-            if let Some(bytes) = new.written(elf, *contents, section) {
-                place_bytes(headers, i, bytes, tail)?;
-            }
-        }
+        let bytes = new.bytes_at(elf, contents, entry.1);
+        place_bytes(headers, entry.1, bytes, tail)?;
     }
+    Ok(())
+}
+
+// Writes `bytes`, the contents of the last section, and sets its header's offset and size.
+fn place_last(
+    headers: &mut [SectionHeader],
+    bytes: &[u8],
+    tail: &mut Tail,
+) -> Result<(), Unwritable>
+    requires { 0 < length headers.old }
+    ensures base { tail.new.base ≡ tail.old.base }
+    ensures count { length headers.new ≡ length headers.old }
+    ensures others { (k : ℕ) (d : SectionHeader) → k ≢ length headers.old - 1 →
+        slice_index_or headers.new k d ≡ slice_index_or headers.old k d }
+    ensures here { OnOk result ((d : SectionHeader) →
+        IsPlaced tail.old.base (tail.old.base + length tail.old.bytes.items) bytes.now tail.new.bytes.items
+        (slice_index_or headers.old (length headers.old - 1) d)
+        (slice_index_or headers.new (length headers.old - 1) d)) }
+    ensures end { OnOk result ((d : SectionHeader) → tail.new.base + length tail.new.bytes.items
+        ≡ (slice_index_or headers.new (length headers.old - 1) d).offset
+        + (slice_index_or headers.new (length headers.old - 1) d).size) }
+    ensures keeps { OnOk result
+        ((o : ℕ) (xs : List ℕ) → Stands tail.old.bytes.items o xs → Stands tail.new.bytes.items o xs) }
+{
+    let last = headers.len() - 1;
+    place_bytes(headers, last, bytes, tail)
+}
+
+/// Writes the contents of all sections, as `place_contents` does, and then the table of ranges, if it is added: its
+/// header is the last.
+pub fn place_all<'a>(
+    elf: &Elf<'a>,
+    contents: &[Contents],
+    order: &[(u64, usize)],
+    new: &NewContents<'a>,
+    adds_ranges: bool,
+    headers: &mut [SectionHeader],
+    tail: &mut Tail,
+) -> Result<(), Unwritable>
+    requires within { All (λ e. e.1 + 1 < length headers.old) order.now }
+    requires distinct { AllPairs (λ e f. e.1 ≢ f.1) order.now }
+    requires more { length elf.now.sections.items < length headers.old }
+    ensures base { OnOk result (tail.new.base ≡ tail.old.base) }
+    ensures placed { OnOk result (ArePlaced (bytes_at new.now elf.now contents.now)
+        (map (λ e. e.1) order.now ++ added_ranges adds_ranges (length headers.old)) tail.old.base
+        (tail.old.base + length tail.old.bytes.items) tail.new.bytes.items headers.old headers.new) }
+{
+    place_contents(elf, contents, order, new, headers, tail)?;
+    if !adds_ranges {
+        return Ok(());
+    }
+    place_last(headers, new.ranges, tail)?;
     Ok(())
 }

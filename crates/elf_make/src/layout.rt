@@ -54,6 +54,9 @@ impl Layout {
             (spec.table_size tables.now (codes ".eh_frame"))
             (spec.table_size tables.now (codes ".eh_frame_hdr"))) }
         ensures tables { IfOk result (HoldsTables tables.now) }
+        ensures area { IfOk result (λ layout. layout.area ≡ plan.now.area) }
+        ensures shift { IfOk result (λ layout. layout.shift ≡ plan.now.shift) }
+        ensures code { IfOk result (λ layout. layout.code ≡ plan.now.code) }
     {
         let segments = elf.segments.as_slice();
         let (area, shift) = (plan.area, plan.shift);

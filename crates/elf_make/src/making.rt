@@ -1,5 +1,5 @@
 // The file with its new area, put together.
-ghost use Rattle.std.specs.Prelude.{◌≡◌, ◌<◌, ◌+◌, All, IfOk, Some, length};
+ghost use Rattle.std.specs.Prelude.{◌≡◌, ◌<◌, ◌+◌, All, IfOk, Some, length, map};
 ghost use Rattle.elf_image.specs.faults.FileFaults.{IsSound};
 ghost use Rattle.elf_image.specs.faults.Truncation.{IsReadable};
 ghost use Rattle.elf_image.specs.file.ParsedFile.{IsElfOf};
@@ -75,7 +75,9 @@ fn put_together(
 }
 
 // The offsets that section headers say.
-fn places_of(alloc: Global, headers: &[SectionHeader]) -> Result<Vec<u64>, NoMemory> {
+fn places_of(alloc: Global, headers: &[SectionHeader]) -> Result<Vec<u64>, NoMemory>
+    ensures { IfOk result (λ places. places.items ≡ map (λ h. h.offset) headers.now) }
+{
     let mut places = Vec::new(alloc);
     for header in headers {
         places.push(header.offset)?;
@@ -132,6 +134,8 @@ pub fn made(
     let program_headers_at = table_place(elf, &layout.area, &layout.shift, &mut tail)?;
     let sections = put(alloc, source, plan, &mut tail)?;
     let section_offsets = places_of(alloc, &sections.headers)?;
+    let index_size = table_size(source.tables, EH_FRAME_HDR).unwrap_or(0) as u64;
+    let file_size = tail.end()?;
     let places = Places {
         elf,
         area: layout.area,
@@ -139,8 +143,8 @@ pub fn made(
         table_at: program_headers_at,
         contents: &plan.contents,
         sections_at: &section_offsets,
-        index_size: table_size(source.tables, EH_FRAME_HDR).unwrap_or(0) as u64,
-        file_size: tail.end()?,
+        index_size,
+        file_size,
     };
     let segments = places.segments(alloc, layout.code)?;
     let cells = cell_numbers(alloc, elf, &layout.shift, &emitted.cells)?;

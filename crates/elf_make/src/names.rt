@@ -11,15 +11,24 @@ pub struct NameTable {
 }
 
 impl NameTable {
+    ghost use Rattle.std.specs.Prelude.{◌≡◌, ◌++◌, IfOk, length};
+    ghost use Rattle.elf_make.specs.NamesAdded as spec;
+
     /// A table that begins with the bytes `old`.
-    pub fn new(alloc: Global, old: &[u8]) -> Result<NameTable, NoMemory> {
+    pub fn new(alloc: Global, old: &[u8]) -> Result<NameTable, NoMemory>
+        ensures { IfOk result (λ t. t.bytes.items ≡ old.now) }
+    {
         let bytes = Vec::from_slice(alloc, old)?;
         Ok(NameTable { bytes })
     }
 
     /// Adds the name that is `front` and `back` joined, and gives its offset in the table. An empty table gets a zero
     /// byte first, since the offset 0 is that of the empty name. `TooLarge` where that passes 32 bits.
-    pub fn add(&mut self, front: &[u8], back: &[u8]) -> Result<u32, Unwritable> {
+    pub fn add(&mut self, front: &[u8], back: &[u8]) -> Result<u32, Unwritable>
+        ensures place { IfOk result (λ at. at ≡ length (spec.begun self.old.bytes.items)) }
+        ensures bytes { IfOk result (λ at.
+            self.new.bytes.items ≡ spec.begun self.old.bytes.items ++ spec.ended (front.now ++ back.now)) }
+    {
         if self.bytes.is_empty() {
             self.bytes.push(0)?;
         }
@@ -34,7 +43,9 @@ impl NameTable {
     }
 
     /// The bytes of the table: those that it began with, and behind them each name that was added, with its zero byte.
-    pub fn bytes(&self) -> &[u8] {
+    pub fn bytes(&self) -> &[u8]
+        ensures { result.now ≡ self.now.bytes.items }
+    {
         &self.bytes
     }
 }

@@ -1,26 +1,32 @@
 // The sections of a written file: their contents behind its loaded bytes, and their headers behind those.
-ghost use Rattle.std.specs.Prelude.{◌≡◌, IfOk};
+ghost use Rattle.std.specs.Prelude.{◌≡◌, ◌≢◌, ◌<◌, ◌≤◌, ◌+◌, ◌*◌, ℕ, List, All, AllPairs, IfOk, OnOk, length};
+ghost use Rattle.std.specs.Prelude.{slice_index_or};
+ghost use Rattle.elf_image.specs.declared.section.Section.{Section};
+ghost use Rattle.elf_image.specs.declared.section.SectionHeader.{SectionHeader};
+ghost use Rattle.elf_plan.specs.declared.sections.Contents.{Contents};
+ghost use Rattle.elf_make.specs.PlacedContents.{set_header};
+ghost use Rattle.elf_make.specs.SectionTable.{AreCapped, ArePut, EndsWith};
+ghost use Rattle.elf_parts.specs.Patches.{Stands};
+ghost use Rattle.elf_plan.specs.NewSections as spec;
 ghost use Rattle.rv_code.specs.layout.FunctionLists.{AreLaidOut};
 ghost use Rattle.elf_image.specs.faults.Truncation.{IsReadable};
-ghost use Rattle.elf_image.specs.file.Header.{e_shstrndx};
+ghost use Rattle.elf_image.specs.file.Header.{e_shnum, e_shstrndx};
 ghost use Rattle.elf_plan.specs.KnownSections.{IsOwnOf};
 
-use crate::headers::{
-    NewContents, area_headers, check_end, old_headers, place_contents, set_contents,
-};
+use crate::headers::{NewContents, area_headers, check_end, old_headers, place_all, set_contents};
 use crate::names::NameTable;
 use crate::symbols::{NewCode, cold_symbols, local_count, symbol_table};
 use crate::tail::{Tail, limited};
 use elf_image::section::{SHDR_SIZE, SHT_PROGBITS};
 use elf_image::{Elf, Section, SectionHeader};
 use elf_parts::spell::{SymbolEntry, put_sections};
-use elf_plan::area::Shift;
-use elf_plan::given_tables::{DEBUG_RNGLISTS, Table, table_called};
+use elf_plan::area::{Area, Shift};
+use elf_plan::given_tables::{DEBUG_RNGLISTS, Table, bytes_called, table_called};
 use elf_plan::name_tables::OwnSections;
 use elf_plan::plan::Plan;
 use elf_plan::round::sum;
 use elf_plan::section_bytes::bytes_of;
-use elf_plan::sections::{Contents, index_called};
+use elf_plan::sections::Contents;
 use elf_plan::source::SectionSource;
 use elf_plan::unwritable::Unwritable;
 use elf_plan::weights::weight_by;
@@ -73,19 +79,18 @@ fn names_at(alloc: Global, elf: &Elf, index: usize) -> Result<NameTable, Unwrita
     Ok(NameTable::new(alloc, bytes_of(elf.file, section))?)
 }
 
-// The header of the table of ranges, where one is given and the input has none. Its place and size are set where the
-// table is written.
-fn added_ranges(
-    elf: &Elf,
-    tables: &[Table],
-    names: &mut NameTable,
-) -> Result<Option<SectionHeader>, Unwritable> {
-    if table_called(tables, DEBUG_RNGLISTS).is_none()
-        || index_called(&elf.sections, DEBUG_RNGLISTS).is_some()
-    {
-        return Ok(None);
-    }
-    Ok(Some(SectionHeader {
+// Whether a table of ranges is added: one is given, and the input has none.
+fn adds_ranges(elf: &Elf, tables: &[Table]) -> bool
+    ensures { result ≡ spec.adds_ranges elf.now.sections.items tables.now }
+{
+    table_called(tables, DEBUG_RNGLISTS).is_some() && elf.section_called(DEBUG_RNGLISTS).is_none()
+}
+
+// Adds the header of the table of ranges. Its place and size are set when the table is written.
+fn add_ranges(headers: &mut Vec<SectionHeader>, names: &mut NameTable) -> Result<(), Unwritable>
+    ensures { OnOk result (length headers.old.items ≤ length headers.new.items) }
+{
+    headers.push(SectionHeader {
         name: names.add(DEBUG_RNGLISTS, b"")?,
         kind: SHT_PROGBITS,
         flags: 0,
@@ -96,7 +101,26 @@ fn added_ranges(
         info: 0,
         align: 1,
         entsize: 0,
-    }))
+    })?;
+    Ok(())
+}
+
+// Adds the headers of all sections that the input hasn't: those in the new area, and that of the table of ranges if it
+// is added.
+fn added_headers(
+    headers: &mut Vec<SectionHeader>,
+    area: &Area,
+    tables: &[Table],
+    adds_ranges: bool,
+    names: &mut NameTable,
+) -> Result<(), Unwritable>
+    ensures { OnOk result (length headers.old.items < length headers.new.items) }
+{
+    area_headers(headers, area, tables, names)?;
+    if adds_ranges {
+        add_ranges(headers, names)?;
+    }
+    Ok(())
 }
 
 // The symbols of cold parts, with their names added to the table of symbol names; none where symbols have no names.
@@ -129,6 +153,7 @@ fn new_symbols(
     text: u16,
 ) -> Result<Vec<u8>, Unwritable>
     requires { AreLaidOut source.now.funcs.now }
+    ensures { length headers.new ≡ length headers.old }
 {
     let Some(index) = own.symbols else {
         return Ok(Vec::new(alloc));
@@ -167,7 +192,42 @@ fn check_sizes(source: &SectionSource, contents: &[Contents]) -> Result<(), Unwr
     Ok(())
 }
 
-/// Writes the contents of all sections into `tail`, and the table of their headers behind them.
+// Writes the contents `new` of sections and then the table of `headers`, and gives the offset of that table. `headers`
+// say all but where the contents are.
+fn put_contents(
+    alloc: Global,
+    source: &SectionSource,
+    plan: &Plan,
+    new: &NewContents,
+    adds_ranges: bool,
+    headers: &mut [SectionHeader],
+    tail: &mut Tail,
+) -> Result<u64, Unwritable>
+    requires within { All (λ e. e.1 + 1 < length headers.old) plan.now.order.items }
+    requires distinct { AllPairs (λ e f. e.1 ≢ f.1) plan.now.order.items }
+    requires more { length source.now.elf.now.sections.items < length headers.old }
+    requires adds { adds_ranges ≡ spec.adds_ranges source.now.elf.now.sections.items source.now.tables.now }
+    ensures base { IfOk result (λ at. tail.new.base ≡ tail.old.base) }
+    ensures count { IfOk result (λ at. length headers.new ≡ length headers.old) }
+    ensures put { IfOk result (λ at. ArePut source.now.elf.now source.now.tables.now plan.now.contents.items
+        plan.now.order.items tail.old.base (tail.old.base + length tail.old.bytes.items) tail.new.bytes.items at
+        headers.new) }
+{
+    check_end(source.elf, &plan.contents, &plan.order, new, tail.end()?)?;
+    place_all(
+        source.elf,
+        &plan.contents,
+        &plan.order,
+        new,
+        adds_ranges,
+        headers,
+        tail,
+    )?;
+    let place = put_table(alloc, headers, tail)?;
+    Ok(place)
+}
+
+/// Writes the contents of all sections into `tail`, and the table of their headers after them.
 pub fn put(
     alloc: Global,
     source: &SectionSource,
@@ -177,15 +237,27 @@ pub fn put(
     requires own { IsOwnOf source.now.elf.now plan.now.own }
     requires readable { IsReadable source.now.elf.now.file.now }
     requires laid_out { AreLaidOut source.now.funcs.now }
+    requires count { length source.now.elf.now.sections.items ≡ e_shnum source.now.elf.now.file.now }
+    requires within { All (λ e. e.1 < e_shnum source.now.elf.now.file.now) plan.now.order.items }
+    requires distinct { AllPairs (λ e f. e.1 ≢ f.1) plan.now.order.items }
     ensures names { IfOk result (λ new. new.names ≡ e_shstrndx source.now.elf.now.file.now) }
     ensures base { IfOk result (λ new. tail.new.base ≡ tail.old.base) }
+    ensures put { IfOk result (λ new. ArePut source.now.elf.now source.now.tables.now plan.now.contents.items
+        plan.now.order.items tail.old.base (tail.old.base + length tail.old.bytes.items) tail.new.bytes.items
+        new.section_headers_at new.headers.items) }
 {
     check_sizes(source, &plan.contents)?;
     let mut names = NewNames::new(alloc, source.elf, &plan.own)?;
     let mut headers = old_headers(alloc, source.elf, &mut names.sections)?;
     let text = u16::try_from(headers.len()).map_err(|_| Unwritable::Layout)?;
-    area_headers(&mut headers, &plan.area, source.tables, &mut names.sections)?;
-    let ranges = added_ranges(source.elf, source.tables, &mut names.sections)?;
+    let adds_ranges = adds_ranges(source.elf, source.tables);
+    added_headers(
+        &mut headers,
+        &plan.area,
+        source.tables,
+        adds_ranges,
+        &mut names.sections,
+    )?;
     let symbols = new_symbols(alloc, source, &plan.own, &mut names, &mut headers, text)?;
     set_all_contents(
         &mut headers,
@@ -198,42 +270,22 @@ pub fn put(
         symbols: &symbols,
         symbol_names: names.of_symbols(),
         tables: source.tables,
+        ranges: bytes_called(source.tables, DEBUG_RNGLISTS),
     };
-    check_end(source.elf, &plan.contents, &plan.order, &new, tail.end()?)?;
-    place_contents(
-        source.elf,
-        &plan.contents,
-        &plan.order,
+    let section_headers_at = put_contents(
+        alloc,
+        source,
+        plan,
         &new,
+        adds_ranges,
         &mut headers,
         tail,
     )?;
-    put_ranges(ranges, source.tables, &mut headers, tail)?;
-    let section_headers_at = put_table(alloc, &mut headers, tail)?;
     Ok(NewSections {
         headers,
         names: plan.own.section_names,
         section_headers_at,
     })
-}
-
-// Writes the table of ranges behind all other contents, if it has a header, and adds that as the last.
-fn put_ranges(
-    header: Option<SectionHeader>,
-    tables: &[Table],
-    headers: &mut Vec<SectionHeader>,
-    tail: &mut Tail,
-) -> Result<(), Unwritable>
-    ensures { IfOk result (λ _. tail.new.base ≡ tail.old.base) }
-{
-    if let (Some(header), Some(table)) = (header, table_called(tables, DEBUG_RNGLISTS)) {
-        headers.push(SectionHeader {
-            offset: tail.add(1, &table.1)?,
-            size: table.1.len() as u64,
-            ..header
-        })?;
-    }
-    Ok(())
 }
 
 // Sets what the headers of the input's sections say of their contents, as `set_contents` does for one.
@@ -242,33 +294,59 @@ fn set_all_contents(
     sections: &[Section],
     contents: &[Contents],
     shift: &Shift,
-) {
+)
+    ensures count { length headers.new ≡ length headers.old }
+    ensures set { (k : ℕ) (h : SectionHeader) (s : Section) (c : Contents) → k < length contents.now →
+        k < length headers.old → k < length sections.now → slice_index_or headers.new k h
+        ≡ set_header shift.now (slice_index_or contents.now k c) (slice_index_or sections.now k s)
+        (slice_index_or headers.old k h) }
+    ensures others { (k : ℕ) (h : SectionHeader) → length contents.now ≤ k →
+        slice_index_or headers.new k h ≡ slice_index_or headers.old k h }
+{
     for i in 0..contents.len().min(headers.len()).min(sections.len()) {
         set_contents(&mut headers[i], &sections[i], contents[i], shift);
     }
+}
+
+// Sets offsets past `end` to `end`.
+fn cap_offsets(headers: &mut [SectionHeader], end: u64)
+    ensures count { length headers.new ≡ length headers.old }
+    ensures capped { AreCapped end headers.old headers.new }
+{
+    for i in 0..headers.len() {
+        headers[i].offset = headers[i].offset.min(end);
+    }
+}
+
+// Where a table of `count` section headers ends that stands at `place`.
+fn table_end(place: u64, count: usize) -> Result<u64, Unwritable>
+    ensures { IfOk result (λ end. end ≡ place + SHDR_SIZE * count) }
+{
+    let size = (count as u64).checked_mul(SHDR_SIZE as u64);
+    sum(place, size.ok_or(Unwritable::Layout)?)
 }
 
 // Writes the table of headers, which ends the file, and gives its offset. Offsets past the file's end, which contents
 // without bytes may have, are set to that end.
 fn put_table(
     alloc: Global,
-    headers: &mut Vec<SectionHeader>,
+    headers: &mut [SectionHeader],
     tail: &mut Tail,
 ) -> Result<u64, Unwritable>
-    ensures { IfOk result (λ at. tail.new.base ≡ tail.old.base) }
+    ensures base { IfOk result (λ at. tail.new.base ≡ tail.old.base) }
+    ensures count { IfOk result (λ at. length headers.new ≡ length headers.old) }
+    ensures capped { IfOk result (λ at.
+        AreCapped (tail.new.base + length tail.new.bytes.items) headers.old headers.new) }
+    ensures ends { IfOk result (λ at. EndsWith tail.old.base (tail.old.base + length tail.old.bytes.items)
+        tail.new.bytes.items at headers.new) }
+    ensures keeps { IfOk result (λ at.
+        (o : ℕ) (xs : List ℕ) → Stands tail.old.bytes.items o xs → Stands tail.new.bytes.items o xs) }
 {
-    let section_headers_at = tail.align_to(8)?;
-    let size = (headers.len() as u64)
-        .checked_mul(SHDR_SIZE as u64)
-        .ok_or(Unwritable::Layout)?;
-    let end = section_headers_at
-        .checked_add(size)
-        .ok_or(Unwritable::Layout)?;
-    for header in headers.iter_mut() {
-        header.offset = header.offset.min(end);
-    }
+    let place = tail.align_to(8)?;
+    let end = table_end(place, headers.len())?;
+    cap_offsets(headers, end);
     let mut bytes = Vec::new(alloc);
     put_sections(&mut bytes, headers)?;
-    tail.add(1, &bytes)?;
-    Ok(section_headers_at)
+    tail.append(&bytes)?;
+    Ok(place)
 }

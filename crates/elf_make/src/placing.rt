@@ -1,5 +1,5 @@
 // How a written file is put together: where its parts lie, and where its table of program headers stands.
-ghost use Rattle.std.specs.Prelude.{◌≡◌, ◌≤◌, IfOk, All, IsTrue, ◌↔◌, true, false};
+ghost use Rattle.std.specs.Prelude.{◌≡◌, ◌≤◌, ◌+◌, IfOk, All, IsTrue, ◌↔◌, true, false, [], length};
 ghost use Rattle.elf_parts.specs.Parts.{PartsFit};
 ghost use Rattle.elf_parts.specs.Numbers.{CanPut};
 ghost use Rattle.elf_make.specs.FileParts as made;
@@ -100,16 +100,20 @@ pub fn table_place(
     shift: &Shift,
     tail: &mut Tail,
 ) -> Result<u64, Unwritable>
+    requires { tail.old.bytes.items ≡ [] }
     ensures place { IfOk result (λ at. made.IsTablePlace elf.now area.now shift.now tail.old.base at) }
     ensures base { IfOk result (λ at. tail.new.base ≡ tail.old.base) }
+    ensures start { IfOk result (λ at. tail.new.base + length tail.new.bytes.items
+        ≡ made.start_after elf.now area.now shift.now tail.old.base) }
 {
     let place = if area.tight {
         area.offset
     } else if is_kept_table(elf, shift) {
         shift.moved(elf.phoff)?
     } else {
+        let segments: &[Segment] = &elf.segments;
         let place = tail.align_to(8)?;
-        tail.fill(PHDR_SIZE.saturating_mul(elf.segments.len()))?;
+        tail.fill(PHDR_SIZE * segments.len())?;
         place
     };
     if place < EHDR_SIZE as u64 {

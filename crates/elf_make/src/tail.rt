@@ -35,11 +35,14 @@ pub struct Tail {
 }
 
 impl Tail {
-    ghost use Rattle.std.specs.Prelude.{◌≡◌, ◌+◌, ◌≤◌, IfOk, length};
+    ghost use Rattle.std.specs.Prelude.{◌≡◌, ◌+◌, ◌-◌, ◌≤◌, ℕ, List, [], IfOk, OnOk, length, max};
+    ghost use Rattle.elf_image.specs.memory.Break.{rounded_up};
+    ghost use Rattle.elf_parts.specs.Patches.{Stands};
 
     /// No bytes, from the offset `base` on.
     pub fn new(alloc: Global, base: u64) -> Tail
-        ensures { result.base ≡ base }
+        ensures base { result.base ≡ base }
+        ensures empty { result.bytes.items ≡ [] }
     {
         Tail {
             base,
@@ -58,6 +61,11 @@ impl Tail {
     pub fn align_to(&mut self, align: u64) -> Result<u64, Unwritable>
         ensures base { self.new.base ≡ self.old.base }
         ensures behind { IfOk result (λ place. self.old.base ≤ place) }
+        ensures place { IfOk result (λ place.
+            place ≡ rounded_up (max 1 align) (self.old.base + length self.old.bytes.items)) }
+        ensures end { IfOk result (λ place. self.new.base + length self.new.bytes.items ≡ place) }
+        ensures keeps { OnOk result
+            ((o : ℕ) (xs : List ℕ) → Stands self.old.bytes.items o xs → Stands self.new.bytes.items o xs) }
     {
         let end = self.end()?;
         let place = limited(checked_rounded_up(align.max(1), end)?)?;
@@ -68,17 +76,39 @@ impl Tail {
 
     /// Adds `bytes` at a multiple of `align`, and gives their offset.
     pub fn add(&mut self, align: u64, bytes: &[u8]) -> Result<u64, Unwritable>
-        ensures { self.new.base ≡ self.old.base }
+        ensures base { self.new.base ≡ self.old.base }
+        ensures behind { IfOk result (λ place. self.old.base ≤ place) }
+        ensures place { IfOk result (λ place.
+            place ≡ rounded_up (max 1 align) (self.old.base + length self.old.bytes.items)) }
+        ensures end { IfOk result (λ place. self.new.base + length self.new.bytes.items ≡ place + length bytes.now) }
+        ensures stands { IfOk result (λ place. Stands self.new.bytes.items (place - self.old.base) bytes.now) }
+        ensures keeps { OnOk result
+            ((o : ℕ) (xs : List ℕ) → Stands self.old.bytes.items o xs → Stands self.new.bytes.items o xs) }
     {
         let place = self.align_to(align)?;
-        limited(sum(place, bytes.len() as u64)?)?;
-        self.bytes.extend_from_slice(bytes)?;
+        self.append(bytes)?;
         Ok(place)
+    }
+
+    /// Adds `bytes` at the end.
+    pub fn append(&mut self, bytes: &[u8]) -> Result<(), Unwritable>
+        ensures base { self.new.base ≡ self.old.base }
+        ensures end { OnOk result (length self.new.bytes.items ≡ length self.old.bytes.items + length bytes.now) }
+        ensures stands { OnOk result (Stands self.new.bytes.items (length self.old.bytes.items) bytes.now) }
+        ensures keeps { OnOk result
+            ((o : ℕ) (xs : List ℕ) → Stands self.old.bytes.items o xs → Stands self.new.bytes.items o xs) }
+    {
+        limited(sum(self.end()?, bytes.len() as u64)?)?;
+        self.bytes.extend_from_slice(bytes)?;
+        Ok(())
     }
 
     /// Adds `count` zeros.
     pub fn fill(&mut self, count: usize) -> Result<(), Unwritable>
-        ensures { self.new.base ≡ self.old.base }
+        ensures base { self.new.base ≡ self.old.base }
+        ensures end { OnOk result (length self.new.bytes.items ≡ length self.old.bytes.items + count) }
+        ensures keeps { OnOk result
+            ((o : ℕ) (xs : List ℕ) → Stands self.old.bytes.items o xs → Stands self.new.bytes.items o xs) }
     {
         limited(sum(self.end()?, count as u64)?)?;
         let size = self.bytes.len() + count;

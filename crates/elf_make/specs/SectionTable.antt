@@ -1,0 +1,51 @@
+-- The table of section headers, which ends a written file. gABI, "Section Header".
+use Rattle.std.specs.Prelude.{◌≡◌, ℕ, ◌+◌, ◌-◌, ◌*◌, ◌<◌, ◌≤◌, ◌++◌, min, List, All, String, Vec}
+use Rattle.std.specs.Prelude.{length, map, slice_index_or}
+use Rattle.elf_image.specs.declared.elf.Elf.{Elf}
+use Rattle.elf_image.specs.declared.section.SectionHeader.{SectionHeader}
+use Rattle.elf_image.specs.declared.section.TheConstants.{SHDR_SIZE}
+use Rattle.elf_image.specs.memory.Break.{rounded_up}
+use Rattle.elf_parts.specs.Patches.{Stands}
+use Rattle.elf_parts.specs.Spellings.{SectionFits, section_table}
+use Rattle.elf_plan.specs.declared.sections.Contents.{Contents}
+use Rattle.elf_plan.specs.FileLayout.{added_ranges}
+use Rattle.elf_plan.specs.NewSections.{adds_ranges}
+use Rattle.elf_make.specs.declared.headers.NewContents.{NewContents}
+use Rattle.elf_make.specs.PlacedContents.{ArePlaced, bytes_at}
+
+-- a header whose offset doesn't pass the end of the file
+abbrev pub capped : ℕ → SectionHeader → SectionHeader
+capped end h = record h { offset = min h.offset end }
+
+abbrev pub AreCapped : ℕ → List SectionHeader → List SectionHeader → Type 0
+AreCapped end old new =
+    (k : ℕ) (d : SectionHeader) → k < length old → slice_index_or new k d ≡ capped end (slice_index_or old k d)
+
+-- The table of `headers` stands at the offset `at`, the least multiple of 8 at or after `end`. The file ends with it, and
+-- `tail` has the bytes of the file from the offset `base` on.
+pub record EndsWith (base end : ℕ) (tail : List ℕ) (at : ℕ) (headers : List SectionHeader) : Type 0 where
+  pub place : at ≡ rounded_up 8 end
+  pub behind : base ≤ at
+  pub fits : All SectionFits headers
+  pub stands : Stands tail (at - base) (section_table headers)
+  pub size : base + length tail ≡ at + SHDR_SIZE * length headers
+
+-- The contents of sections stand in the tail of a file from the offset `start` on, and the table of their headers, at `at`,
+-- ends the file.
+pub record ArePut {Y Z : Type 0} (elf : Elf) (tables : List (String Y × Vec ℕ Z)) (contents : List Contents)
+    (order : List (ℕ × ℕ)) (base start : ℕ) (tail : List ℕ) (at : ℕ) (headers : List SectionHeader) : Type 0 where
+  -- the contents that are written, and the bytes of the tail up to where they end
+  pub new : NewContents
+  pub front : List ℕ
+  pub keeps : (o : ℕ) (xs : List ℕ) → Stands front o xs → Stands tail o xs
+  -- the headers before these contents have their places, and afterwards
+  pub set : List SectionHeader
+  pub placed : List SectionHeader
+  pub are_placed : ArePlaced (bytes_at new elf contents)
+      (map (λ e. e.1) order ++ added_ranges (adds_ranges elf.sections.items tables) (length set)) base start front set
+      placed
+  pub count : length headers ≡ length placed
+  pub are_capped : AreCapped (base + length tail) placed headers
+  pub ends : EndsWith base (base + length front) tail at headers
+  -- the new code has a section behind those of the input
+  pub more : length elf.sections.items < length set
