@@ -2,8 +2,6 @@
 #![tactic(auto)]
 
 mod entry_names;
-mod header_check;
-mod layout_check;
 mod name_check;
 mod name_parts;
 mod read_back;

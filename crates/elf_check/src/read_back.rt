@@ -1,9 +1,10 @@
-// Whether a file that was written has the sections, program headers, names, symbols and layout that it must have, as
-// they are read back.
+// Whether a file that was written has the sections, names and symbols that it must have, as they are read back.
 ghost use Rattle.std.specs.Prelude.{◌≡◌, IfOk, IsTrue, length};
 ghost use Rattle.rv_code.specs.layout.FunctionLists.{AreLaidOut};
 ghost use Rattle.elf_image.specs.faults.FileFaults.{IsSound};
+ghost use Rattle.elf_image.specs.declared.elf.Elf.{Elf};
 ghost use Rattle.elf_image.specs.file.Header.{e_shstrndx};
+ghost use Rattle.elf_image.specs.file.ParsedFile.{IsElfOf};
 ghost use Rattle.elf_plan.specs.FirstNames.{AreFirstNames};
 ghost use Rattle.elf_plan.specs.FragmentLists.{AreFragments};
 ghost use Rattle.elf_plan.specs.AreaStands.{AreaStands};
@@ -19,8 +20,6 @@ ghost use Rattle.elf_check.specs.ArrangedTables.{IsArranged};
 ghost use Rattle.elf_check.specs.NewTables.{HasNewTables};
 
 use crate::entry_names::KeptNames;
-use crate::header_check::has_headers;
-use crate::layout_check::is_laid_out;
 use crate::name_check::has_names;
 use crate::section_tables::FileCheck;
 use crate::symbol_check::CodeSymbols;
@@ -35,20 +34,6 @@ use elf_plan::unwritable::Unwritable;
 use rb_bytes::fault::Refusal;
 use std::alloc::Global;
 
-// Whether the layout and the program headers are those that the file must have.
-fn has_places(alloc: Global, check: &FileCheck) -> Result<bool, Unwritable>
-    requires { IsArranged check.now }
-    ensures layout { IfOk result (λ holds. IsTrue holds →
-        HasFileLayout check.now.elf.now check.now.new.now check.now.given.now check.now.area check.now.shift) }
-    ensures headers { IfOk result (λ holds. IsTrue holds →
-        HasNewHeaders check.now.elf.now check.now.new.now check.now.given.now check.now.area check.now.shift) }
-{
-    if !is_laid_out(check)? {
-        return Ok(false);
-    }
-    has_headers(alloc, check)
-}
-
 // Whether the sections are those that the file must have.
 fn has_new_sections(check: &FileCheck) -> bool
     requires old { WasRead check.now.elf.now }
@@ -62,27 +47,6 @@ fn has_new_sections(check: &FileCheck) -> bool
 {
     let names = KeptNames::of_sections(check.elf, check.new);
     check.are_new(&names)
-}
-
-// Whether the sections, their layout and the program headers are those that the file must have.
-fn has_sections(alloc: Global, check: &FileCheck) -> Result<bool, Unwritable>
-    requires old { WasRead check.now.elf.now }
-    requires new { WasRead check.now.new.now }
-    requires arranged { IsArranged check.now }
-    requires names { e_shstrndx check.now.new.now.file.now ≡ e_shstrndx check.now.elf.now.file.now }
-    ensures sections { IfOk result (λ holds. IsTrue holds →
-        AreaStands check.now.area check.now.given.now check.now.code.now check.now.new.now.file.now →
-        AreNewSections check.now.elf.now check.now.new.now check.now.given.now check.now.area check.now.shift
-        check.now.code.now) }
-    ensures layout { IfOk result (λ holds. IsTrue holds →
-        HasFileLayout check.now.elf.now check.now.new.now check.now.given.now check.now.area check.now.shift) }
-    ensures headers { IfOk result (λ holds. IsTrue holds →
-        HasNewHeaders check.now.elf.now check.now.new.now check.now.given.now check.now.area check.now.shift) }
-{
-    if !has_new_sections(check) {
-        return Ok(false);
-    }
-    has_places(alloc, check)
 }
 
 // The bytes of a symbol table behind its last whole symbol.
@@ -201,7 +165,7 @@ fn has_names_and_symbols(
     has_symbols(alloc, source, check.new)
 }
 
-// Whether sections, program headers, names, symbols and layout are what they must be.
+// Whether sections, names and symbols are what they must be.
 fn has_new_tables(
     alloc: Global,
     source: &SectionSource,
@@ -220,16 +184,10 @@ fn has_new_tables(
         AreaStands plan.now.area source.now.tables.now code.now new.now.file.now →
         AreNewSections source.now.elf.now new.now source.now.tables.now
         plan.now.area plan.now.shift code.now) }
-    ensures headers { IfOk result (λ holds. IsTrue holds →
-        HasNewHeaders source.now.elf.now new.now source.now.tables.now
-        plan.now.area plan.now.shift) }
     ensures names { IfOk result (λ holds. IsTrue holds → HaveNewNames source.now.elf.now new.now source.now.tables.now
         plan.now.area source.now.funcs.now source.now.cold.now) }
     ensures symbols { IfOk result (λ holds. IsTrue holds →
         HaveNewSymbols source.now.elf.now new.now source.now.funcs.now source.now.map.now source.now.cold.now) }
-    ensures layout { IfOk result (λ holds. IsTrue holds →
-        HasFileLayout source.now.elf.now new.now source.now.tables.now
-        plan.now.area plan.now.shift) }
 {
     let check = FileCheck {
         elf: source.elf,
@@ -238,17 +196,17 @@ fn has_new_tables(
         area: plan.area,
         shift: plan.shift,
         contents: &plan.contents,
-        order: &plan.order,
         code,
     };
-    if !has_sections(alloc, &check)? {
+    if !has_new_sections(&check) {
         return Ok(false);
     }
     has_names_and_symbols(alloc, source, &check)
 }
 
-/// Whether the reader takes the bytes `file`, and finds in them the sections, program headers, names, symbols and
-/// layout that follow from the input, its new code `code` and its plan. The bytes of the new area aren't looked at.
+/// Whether the reader takes the bytes `file`, and finds in them the sections, names and symbols that follow from the
+/// input, its new code `code` and its plan. The bytes of the new area, the program headers and the layout are proved
+/// of each file that is made, so they aren't looked at.
 pub fn is_accepted(
     alloc: Global,
     source: &SectionSource,
@@ -265,6 +223,10 @@ pub fn is_accepted(
     ensures sound { IfOk result (λ holds. IsTrue holds → IsSound file.now) }
     ensures tables { IfOk result (λ holds. IsTrue holds →
         AreaStands plan.now.area source.now.tables.now code.now file.now →
+        ((new : Elf) → IsElfOf file.now new →
+        HasNewHeaders source.now.elf.now new source.now.tables.now plan.now.area plan.now.shift) →
+        ((new : Elf) → IsElfOf file.now new →
+        HasFileLayout source.now.elf.now new source.now.tables.now plan.now.area plan.now.shift) →
         HasNewTables source.now.elf.now source.now.tables.now code.now source.now.funcs.now source.now.cold.now
         source.now.map.now plan.now.area.tight file.now) }
 {

@@ -30,8 +30,6 @@ pub struct FileCheck<'a> {
     pub shift: Shift,
     /// Where the contents of each of the input's sections are.
     pub contents: &'a [Contents],
-    /// The sections whose contents are written behind the loaded bytes: their offsets in the input and their indices.
-    pub order: &'a [(u64, usize)],
     /// The bytes of the new code.
     pub code: &'a [u8],
 }

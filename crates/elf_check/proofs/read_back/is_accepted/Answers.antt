@@ -26,11 +26,10 @@ pub has_new_tables-requires-clause-names : goal.has_new_tables-requires-clause-n
 has_new_tables-requires-clause-names c = ap e_shstrndx c.in-Ok.ensures.fields.file_is ∙ c.requires.names
 
 -- all of them of one answer
-together : {E : Type 0} (r : Result Bool E) (P Q R S T U : Bool → Type 0) →
-    ((b : Bool) → P b → Q b → R b → S b → T b → U b) →
-    IfOk r P → IfOk r Q → IfOk r R → IfOk r S → IfOk r T → IfOk r U
-together (Ok b) P Q R S T U gives p q r s t = gives b p q r s t
-together (Err e) P Q R S T U gives p q r s t = record {}
+together : {E : Type 0} (r : Result Bool E) (P Q R S : Bool → Type 0) → ((b : Bool) → P b → Q b → R b → S b) → IfOk r P →
+    IfOk r Q → IfOk r R → IfOk r S
+together (Ok b) P Q R S gives p q r = gives b p q r
+together (Err e) P Q R S gives p q r = record {}
 
 -- what holds of the area and the shift of a plan holds of those that must be
 settled : (segments : List Segment) (made area : Area) (shift : Shift) (P : Area → Shift → Type 0) → made ≡ area →
@@ -47,21 +46,22 @@ returns-in-Ok-clause-tables c =
     let plan = c.args.plan.now in
     let new = c.in-Ok.found in
     let is = c.requires.plan in
-    together c.has_new_tables.result _ _ _ _ _ _
-    (λ b sections headers names symbols layout holds stands. record {
+    together c.has_new_tables.result _ _ _ _
+    (λ b sections names symbols holds stands headers layout. record {
       new = new;
       read = c.in-Ok.ensures.fields;
       sections = settled elf.segments.items plan.area _ plan.shift (λ a s. AreNewSections elf new tables a s code) is.area
           is.shift
           (sections holds
           (subst (λ (f : List ℕ). AreaStands plan.area tables code f) (sym c.in-Ok.ensures.fields.file_is) stands));
-      headers = settled elf.segments.items plan.area _ plan.shift (HasNewHeaders elf new tables) is.area is.shift (headers holds);
+      headers = settled elf.segments.items plan.area _ plan.shift (HasNewHeaders elf new tables) is.area is.shift
+          (headers new c.in-Ok.ensures.fields);
       names = subst (λ (a : Area). HaveNewNames elf new tables a source.funcs.now source.cold.now) is.area (names holds);
       symbols = symbols holds;
-      layout = settled elf.segments.items plan.area _ plan.shift (HasFileLayout elf new tables) is.area is.shift (layout holds);
+      layout = settled elf.segments.items plan.area _ plan.shift (HasFileLayout elf new tables) is.area is.shift
+          (layout new c.in-Ok.ensures.fields);
     })
-    c.has_new_tables.ensures.sections c.has_new_tables.ensures.headers c.has_new_tables.ensures.names
-    c.has_new_tables.ensures.symbols c.has_new_tables.ensures.layout
+    c.has_new_tables.ensures.sections c.has_new_tables.ensures.names c.has_new_tables.ensures.symbols
 
 pub returns-in-Ok-clause-sound : goal.returns-in-Ok-clause-sound
 returns-in-Ok-clause-sound c =

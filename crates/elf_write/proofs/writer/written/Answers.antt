@@ -2,7 +2,12 @@ use Rattle.std.proofs.Common.{◌≡◌, ◌∙◌, ap, subst, sym, Bool, List, 
 use Rattle.elf_image.specs.faults.FileFaults.{IsSound}
 use Rattle.elf_image.specs.file.Header.{e_shstrndx}
 use Rattle.elf_image.specs.declared.elf.Elf.{Elf}
+use Rattle.elf_image.specs.file.ParsedFile.{IsElfOf}
 use Rattle.elf_plan.specs.declared.area.Area.{Area}
+use Rattle.elf_plan.specs.declared.area.Shift.{Shift}
+use Rattle.elf_plan.specs.Area.{shift_of}
+use Rattle.elf_plan.specs.FileLayout.{HasFileLayout}
+use Rattle.elf_plan.specs.HeaderPlaces.{HasNewHeaders}
 use Rattle.elf_plan.specs.declared.fragments.Fragment.{Fragment}
 use Rattle.elf_plan.specs.declared.plan.Plan.{Plan}
 use Rattle.elf_image.specs.declared.symbol.Symbol.{Symbol}
@@ -17,6 +22,8 @@ use Rattle.elf_make.specs.Source.{HasPlace, Source, source_of}
 use Rattle.elf_make.proofs.AllWritten.{all-written, placed-there}
 use Rattle.elf_make.proofs.CellPieces.{pieces_apart, pieces_can}
 use Rattle.elf_make.proofs.CodeWritten.{area-written}
+use Rattle.elf_make.proofs.HeadersRead.{headers-read}
+use Rattle.elf_make.proofs.LayoutRead.{layout-read}
 use Rattle.elf_make.proofs.MadeHeaders.{e_shstrndx-written}
 use Rattle.elf_make.proofs.PiecesWritten.{placed_in_pieces, written_in_pieces}
 use Rattle.elf_make.proofs.SoundFiles.{readable}
@@ -99,11 +106,21 @@ returns-clause-tables c = λ tight placed.
     let planned : IsPlanOf elf tables code plan.area.tight plan =
     above_tight elf tables code c.in_ok-tight.tight plan
     (subst (λ (bs : List ℕ). IsPlanOf elf tables bs c.in_ok-tight.tight plan) c.deref-3.ensures.value c.in_ok-plan.ensures) in
-    let found = c.in_ok-is_accepted.ensures.tables c.if-not-branch.false in
+    let made_area : made.made.layout.area ≡ plan.area = made.made.laid_out.area ∙ sym planned.area in
+    let made_shift : made.made.layout.shift ≡ plan.shift =
+    made.made.laid_out.shift ∙ ap (shift_of elf.segments.items) made_area ∙ sym planned.shift in
+    let planned_by : (P : Area → Shift → Type 0) → P made.made.layout.area made.made.layout.shift → P plan.area plan.shift =
+    λ P holds. subst (P plan.area) made_shift (subst (λ (a : Area). P a made.made.layout.shift) made_area holds) in
+    let Accepts : List ℕ → List ℕ → Type 0 = λ bs f. AreaStands plan.area tables bs f →
+    ((new : Elf) → IsElfOf f new → HasNewHeaders elf new tables plan.area plan.shift) →
+    ((new : Elf) → IsElfOf f new → HasFileLayout elf new tables plan.area plan.shift) →
+    HasNewTables elf tables bs funcs cold spans above f in
+    let found : Accepts code w = subst (Accepts code) c.deref-5.ensures.value
+    (subst (λ (bs : List ℕ). Accepts bs c.deref-5.result.now) c.deref-4.ensures.value
+    (c.in_ok-is_accepted.ensures.tables c.if-not-branch.false)) in
     subst (λ (t : Bool). HasNewTables elf tables code funcs cold spans t w) there
-    (subst (λ (f : List ℕ). AreaStands plan.area tables code f → HasNewTables elf tables code funcs cold spans above f)
-    c.deref-5.ensures.value
-    (subst (λ (bs : List ℕ). AreaStands plan.area tables bs c.deref-5.result.now →
-    HasNewTables elf tables bs funcs cold spans above c.deref-5.result.now)
-    c.deref-4.ensures.value found)
-    (subst (λ (a : Area). AreaStands a tables code w) (sym planned.area) stands))
+    (found (subst (λ (a : Area). AreaStands a tables code w) (sym planned.area) stands)
+    (λ new read. planned_by (HasNewHeaders elf new tables)
+    (headers-read s above w c.requires.read c.requires.sound made.made can tables made.sections new read))
+    (λ new read. planned_by (HasFileLayout elf new tables)
+    (layout-read s above w c.requires.read c.requires.sound made.made can tables made.sections new read)))

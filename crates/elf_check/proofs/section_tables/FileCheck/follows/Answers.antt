@@ -15,5 +15,5 @@ becomes-requires-clause-contents c =
     let here : s ≡ get_or olds i s = search rules in
     let known : i < length all = search rules in
     let there : contents ≡ get_or all i contents = search rules in
-    c.requires.arranged.contents_are.each i s contents (slice_get_read olds (length olds) i s refl below here)
+    c.requires.arranged.each i s contents (slice_get_read olds (length olds) i s refl below here)
     (slice_get_read all (length all) i contents refl known there)
