@@ -1,4 +1,4 @@
--- A section with the header of one that is added in the new area has its bytes, where these stand there.
+-- A section with the header of one that is added in the new area has its bytes, where these are there.
 use Rattle.std.proofs.Common.{◌≡◌, ◌∙◌, ap, ℕ, List, [], length, take, drop}
 use Rattle.std.specs.Prelude.{◌==◌, if◌then◌else◌}
 use Rattle.elf_image.specs.declared.section.Section.{Section}

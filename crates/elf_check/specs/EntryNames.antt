@@ -18,7 +18,7 @@ name_of names index = text_of names.texts.now (place_of names index)
 abbrev pub AreNamed : {A : Type 0} → (A → List ℕ) → EntryNames → ℕ → List A → Type 0
 AreNamed {A} name names from xs = (i : ℕ) (x : A) → slice_get xs i ≡ Some x → name x ≡ name_of names (from + i)
 
--- a zero byte at `end`, at or behind `place`, where a text begins
+-- a zero byte at `end`, at or after `place`, where a text begins
 pub record IsEnd (texts : List ℕ) (place end : ℕ) : Type 0 where
   pub behind : place ≤ end
   pub within : end < length texts

@@ -1,5 +1,5 @@
--- The tables of names of a written file: those that were there, and behind them the names that are added.
--- gABI, "String Table".
+-- The tables of names of a written file: those that were there, and after them the names that are added. gABI, "String
+-- Table".
 use Rattle.std.specs.Prelude.{◌≡◌, ◌≢◌, ℕ, ◌==◌, ◌&&◌, nat_lt, if◌then◌else◌, is_some, Bool, List, Option, [], ◌∷◌}
 use Rattle.std.specs.Prelude.{◌++◌, IfSome, String, Vec, codes, flat_map, length, slice_get}
 use Rattle.std.specs.Option.{option_map_or}
@@ -40,11 +40,11 @@ name_behind symbol = option_map_or (λ s. ended (cold_name s.name.now)) symbol [
 abbrev pub cold_names : Elf → List Func → List ℕ → List ℕ
 cold_names elf funcs cold = flat_map (λ a. name_behind (named_around elf.symbols.items funcs a)) cold
 
--- the bytes of the section at `index`; none where there is no such section
+-- the bytes of the section at `index`; none if there is no such section
 abbrev pub table_bytes : Elf → ℕ → List ℕ
 table_bytes elf index = option_map_or (section_bytes elf.file.now) (slice_get elf.sections.items index) []
 
--- A table with the names `names` behind the old ones. If it was empty, it begins with a zero byte then.
+-- A table with the names `names` after the old ones. If it was empty, it begins with a zero byte then.
 abbrev pub extended : List ℕ → List ℕ → List ℕ
 extended old names = if (length old == 0) && nat_lt 0 (length names) then 0 ∷ names else old ++ names
 

@@ -57,7 +57,7 @@ local_count symbols table = min (length symbols) table.info
 abbrev pub new_info : List Symbol → ℕ → Section → ℕ
 new_info symbols added table = if added == 0 then table.info else local_count symbols table + added
 
--- The added symbols stand behind the local ones.
+-- The added symbols are after the local ones.
 pub record AreNewSymbols (old new : List Symbol) (funcs : List Func) (spans : List Span) (cold : List ℕ) (text : ℕ)
     (table new_table : Section) : Type 0 where
   pub info : new_table.info ≡ new_info old (length (named_parts old funcs cold)) table
@@ -68,7 +68,7 @@ pub record AreNewSymbols (old new : List Symbol) (funcs : List Func) (spans : Li
   pub behind : GoTogether (IsNewSymbol funcs spans text) (drop (local_count old table) old)
       (drop (length (named_parts old funcs cold)) (drop (local_count old table) new))
 
--- what stands in a symbol table behind its last whole symbol
+-- what is in a symbol table after its last whole symbol
 abbrev pub bytes_behind : Elf → Section → List ℕ
 bytes_behind elf table = drop (SYM_SIZE * length elf.symbols.items) (section_bytes elf.file.now table)
 

@@ -19,8 +19,8 @@ use elf_image::number::u32_at;
 use elf_image::section::SHDR_SIZE;
 use elf_image::symbol::SYM_SIZE;
 
-/// Where the names of a table's entries stand. Each entry begins with the offset of its name in the table of names, as
-/// `sh_name` and `st_name` do.
+/// The places of the names of a table's entries. Each entry begins with the offset of its name in the table of names,
+/// as `sh_name` and `st_name` do.
 #[derive(Clone, Copy)]
 pub struct EntryNames<'a> {
     pub file: &'a [u8],
@@ -65,7 +65,7 @@ fn names_of_sections<'a>(file: &'a [u8]) -> EntryNames<'a>
     }
 }
 
-// The names of the symbols of a file; no entries where there is no symbol table.
+// The names of the symbols of a file; no entries if there is no symbol table.
 fn names_of_symbols<'a>(file: &'a [u8]) -> EntryNames<'a>
     requires { IsReadable file.now }
     ensures { (symbols : List Symbol) → AreSymbolsOf file.now (symbol_table file.now) symbols →
@@ -119,7 +119,7 @@ fn is_ended(texts: &[u8], place: u32, name: &[u8]) -> bool
 pub struct KeptNames<'a> {
     pub old: EntryNames<'a>,
     pub new: EntryNames<'a>,
-    /// What the new table of names has behind the old one, if it begins with it.
+    /// What the new table of names has after the old one, if it begins with it.
     added: Option<&'a [u8]>,
     ghost begins: { IfSome added (λ rest. new.texts.now ≡ old.texts.now ++ rest.now) } by { Prim.hlevel props },
 }

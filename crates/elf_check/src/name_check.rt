@@ -27,7 +27,7 @@ fn behind_name<'a>(bytes: &'a [u8], front: &[u8], back: &[u8]) -> Option<&'a [u8
     behind(rest, &[0])
 }
 
-// What follows `name` and its zero byte in `bytes`, if the name has to be `there`; else all of them.
+// What follows `name` and its zero byte in `bytes`, if the name has to be `there`; otherwise all of them.
 fn behind_if<'a>(bytes: &'a [u8], there: bool, name: &[u8]) -> Option<&'a [u8]>
     ensures { IfSome result (λ rest. bytes.now ≡ spec.ended_if there name.now ++ rest.now) }
 {
@@ -38,7 +38,7 @@ fn behind_if<'a>(bytes: &'a [u8], there: bool, name: &[u8]) -> Option<&'a [u8]>
     }
 }
 
-// What follows the new name of `section` in `bytes`, if it is renamed; else all of them.
+// What follows the new name of `section` in `bytes`, if it is renamed; otherwise all of them.
 fn behind_old_name<'a>(bytes: &'a [u8], section: &Section) -> Option<&'a [u8]>
     ensures { IfSome result (λ rest. bytes.now ≡ spec.old_ended section.now ++ rest.now) }
 {
@@ -71,7 +71,7 @@ fn behind_added<'a>(bytes: &'a [u8], area: &Area, ranges: bool) -> Option<&'a [u
 }
 
 // What follows the table of names `old` in `table`, which has to begin with it. Where the old one was empty, names that
-// are added stand behind a zero byte; without any the new one is empty too.
+// are added are after a zero byte; without any the new one is empty too.
 fn behind_old_table<'a>(table: &'a [u8], old: &[u8]) -> Option<&'a [u8]>
     ensures { IfSome result (λ rest. table.now ≡ spec.extended old.now rest.now) }
 {
@@ -85,7 +85,7 @@ fn behind_old_table<'a>(table: &'a [u8], old: &[u8]) -> Option<&'a [u8]>
     if rest.is_empty() { None } else { Some(rest) }
 }
 
-// The bytes of the section at `index`; no bytes where there is no such section.
+// The bytes of the section at `index`; no bytes if there is no such section.
 fn table_bytes<'a>(elf: &Elf<'a>, index: usize) -> &'a [u8]
     ensures { result.now ≡ spec.table_bytes elf.now index }
 {
@@ -208,7 +208,7 @@ impl<'a> NewNames<'a> {
         }
     }
 
-    // Whether the table at `index` is the old one, with the names of cold parts behind it.
+    // Whether the table at `index` is the old one, with the names of cold parts after it.
     fn has_cold(&self, names: &BTreeMap<u64, Symbol>, index: usize) -> bool
         requires laid_out { AreLaidOut self.now.funcs.now }
         requires names { AreFirstNames self.now.check.now.elf.now.symbols.items names.now }

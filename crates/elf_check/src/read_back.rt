@@ -49,7 +49,7 @@ fn has_new_sections(check: &FileCheck) -> bool
     check.are_new(&names)
 }
 
-// The bytes of a symbol table behind its last whole symbol.
+// The bytes of a symbol table after its last whole symbol.
 fn bytes_behind<'a>(elf: &Elf<'a>, table: &Section) -> &'a [u8]
     ensures { result.now ≡ bytes_behind elf.now table.now }
 {
@@ -59,7 +59,7 @@ fn bytes_behind<'a>(elf: &Elf<'a>, table: &Section) -> &'a [u8]
     &bytes[end.min(bytes.len())..]
 }
 
-// Whether two files have the same bytes behind the last whole symbols of their tables.
+// Whether two files have the same bytes after the last whole symbols of their tables.
 fn has_same_rest(elf: &Elf, table: &Section, new: &Elf, new_table: &Section) -> bool
     ensures { IsTrue result → bytes_behind new.now new_table.now ≡ bytes_behind elf.now table.now }
 {

@@ -23,7 +23,7 @@ fn is_old_name(s: &Section, name: &[u8]) -> bool
     is_joined(name, old_prefix(s.name), s.name)
 }
 
-/// Whether `n` has the name that `s` gets, where both stand at `index`.
+/// Whether `n` has the name that `s` gets, where both are at `index`.
 pub fn has_new_name(names: &KeptNames, index: usize, s: &Section, n: &Section) -> bool
     requires old { s.now.name.now ≡ name_of names.now.old index }
     requires new { n.now.name.now ≡ name_of names.now.new index }
@@ -75,7 +75,7 @@ fn is_dropped(s: &Section, n: &Section) -> bool
         && n.entsize == 0
 }
 
-// Whether a header that stands for no section is as it was. An offset past the file's end is set to that end.
+// Whether a header of no section is as it was. An offset past the file's end is set to that end.
 fn is_inactive(w: &[u8], s: &Section, n: &Section) -> bool
     ensures { IsTrue result → spec.IsInactive w.now s.now n.now }
 {
@@ -196,7 +196,7 @@ impl<'a> Added<'a> {
     ghost use Rattle.elf_plan.specs.Area.{area_offset};
     ghost use Rattle.elf_plan.specs.NewSections.{IsAdded, IsHeader, IsInArea};
 
-    // Whether the header of `n` says what it must, but for its offset and size.
+    // Whether the header of `n` says what it must, except for its offset and size.
     fn has_header(&self, n: &Section) -> bool
         ensures { IsTrue result → IsHeader self.now.name.now self.now.flags self.now.addr self.now.align n.now }
     {

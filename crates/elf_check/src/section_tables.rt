@@ -49,7 +49,7 @@ impl<'a> FileCheck<'a> {
     ghost use Rattle.elf_plan.specs.OldNames.{new_name};
     ghost use Rattle.rv_code.specs.isa.Op.{flag};
 
-    // Whether the section `n` is what the section `s` of the input becomes, by where its contents are. Both stand at
+    // Whether the section `n` is what the section `s` of the input becomes, by where its contents are. Both are at
     // `index`.
     fn becomes(
         &self,

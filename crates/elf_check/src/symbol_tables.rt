@@ -16,7 +16,7 @@ fn local_count(symbols: &[Symbol], table: &Section) -> usize
     symbols.len().min(table.info as usize)
 }
 
-// Whether the header `new` has the number of local symbols that it must, where `added` are put behind those of `table`.
+// Whether the header `new` has the number of local symbols that it must, where `added` are put after those of `table`.
 fn has_info(symbols: &[Symbol], added: usize, table: &Section, new: &Section) -> bool
     ensures { IsTrue result → new.now.info ≡ spec.new_info symbols.now added table.now }
 {
@@ -34,7 +34,7 @@ fn first<'a, 'b>(symbols: &'b [Symbol<'a>], count: usize) -> &'b [Symbol<'a>]
     &symbols[..count.min(symbols.len())]
 }
 
-// The symbols behind the first `count`.
+// The symbols after the first `count`.
 fn behind<'a, 'b>(symbols: &'b [Symbol<'a>], count: usize) -> &'b [Symbol<'a>]
     ensures { result.now ≡ drop count symbols.now }
 {

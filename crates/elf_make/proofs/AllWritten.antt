@@ -41,7 +41,7 @@ module _ (s : Source) (above : Bool) (w : List ℕ) (read : IsElfOf s.elf.file.n
       (image-is s tight w read sound bytes made_so (load_once w sound_w)) (front-written s tight w read sound bytes can made_so)
       (behind-written s tight w read sound bytes made_so)
 
-  -- the area stands where the map says
+  -- the area is where the map says
   pub placed-there : above ≡ is_none (owner s.spans (area_start s.elf.segments.items)) → (tight : Bool) →
       HasPlace s tight → above ≡ tight
   placed-there is tight placed = is ∙ is-tight s higher tight placed

@@ -1,4 +1,4 @@
--- A file that was made has the bytes behind the executable segment that a segment names and doesn't load.
+-- A file that was made has the bytes after the executable segment that a segment names and doesn't load.
 use Rattle.std.proofs.Common.{◌≡◌, ◌∙◌, sym, ap, subst, refl, ℕ, zero, suc, ◌+◌, ◌*◌, ◌≤◌, ◌<◌, ◌⊎◌, inl, inr, List}
 use Rattle.std.proofs.Common.{Bool, true, false, length, map, get_or, arith}
 use Rattle.std.specs.Prelude.{All, Contains, nat_lt}
@@ -72,7 +72,7 @@ module _ (s : Source) (tight : Bool) (w : List ℕ) (read : IsElfOf s.elf.file.n
         unloaded place.segment place.there (place.load, omega (arith, start), omega (arith, under, inside))
         (omega (arith, under, loaded))
 
-    -- The file's header stands before the end of the executable segment.
+    -- The file's header is before the end of the executable segment.
     field-is_beside : (o n v : ℕ) → o + n ≤ 64 → IsBeside at (patch_of (number o n v))
     field-is_beside o n v within =
         let header : 64 ≤ made.layout.parts.keep = made.laid_out.header in

@@ -26,7 +26,7 @@ use Rattle.elf_make.proofs.CellPlaces.{CellPlace, cell-place, stands_at}
 use Rattle.elf_make.proofs.ImageWritten.{patches, within-all, written-all}
 use Rattle.elf_make.proofs.MadeHeaders.{headers, joined}
 
--- what doesn't lie in a range lies before or behind it
+-- what isn't in a range is before or after it
 pub apart-of : (k o n : ℕ) → (o ≤ k → k < o + n → ⊥) → (k < o) ⊎ (o + n ≤ k)
 apart-of k o n outside = cases (cases_lt k o) (cases_lt k (o + n))
   where
@@ -46,7 +46,7 @@ module _ (s : Source) (tight : Bool) (w : List ℕ) (read : IsElfOf s.elf.file.n
   abbrev table_size : ℕ
   table_size = PHDR_SIZE * length s.elf.segments.items
 
-  -- the written table, which stands in its place
+  -- the written table, which is in its place
   abbrev pub table_patch : Patch
   table_patch = record { offset = made.program_headers_at; bytes = segment_table made.segments }
 
@@ -100,7 +100,7 @@ module _ (s : Source) (tight : Bool) (w : List ℕ) (read : IsElfOf s.elf.file.n
     field-beside o n v (inl before) = inl before
     field-beside o n v (inr behind) = let long = length-bytes_low_first 0 n v in inr (omega (arith, long, behind))
 
-    -- A table that stands where the input's went has as many headers.
+    -- A table at the place to which the input's went has as many headers.
     pub table-beside : made.layout.area.tight ≡ false → made.program_headers_at ≡ moved_by from step s.elf.phoff →
         (k < s.elf.phoff) ⊎ (s.elf.phoff + table_size ≤ k) → IsBeside at table_patch
     table-beside not_tight stands apart = cases (moved-beside s.elf.phoff table_size apart)
@@ -116,7 +116,7 @@ module _ (s : Source) (tight : Bool) (w : List ℕ) (read : IsElfOf s.elf.file.n
         cases (inl before) = let place = stands in inl (omega (arith, place, before))
         cases (inr behind) = let place = stands in let size = long in inr (omega (arith, place, size, behind))
 
-    -- So it is what stands there before anything is written over.
+    -- So it is what is there before anything is written over.
     pub beside-is : All (IsBeside at) (map patch_of made.cells) → IsBeside at table_patch →
         All (IsBeside at) (map patch_of (header_numbers made.fields)) → at < size_of made.layout.parts →
         get_or w at 0 ≡ get_or made.put.assembled.base at 0

@@ -10,7 +10,7 @@ use Rattle.elf_plan.specs.Area.{moved_by}
 use Rattle.elf_parts.specs.Patches.{Leaves}
 use Rattle.elf_make.proofs.Loads.{moved-behind, moved-before}
 
--- what lies lower goes lower
+-- a lower offset goes to a lower one
 pub moved-less : (file_end delta k o : ℕ) → k < o → moved_by file_end delta k < moved_by file_end delta o
 moved-less file_end delta k o less = cases (cases_lt k file_end) (cases_lt o file_end)
   where

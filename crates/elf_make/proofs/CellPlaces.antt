@@ -1,4 +1,4 @@
--- Where code cells stand in the written file: apart from one another, and beside headers.
+-- Where code cells are in the written file: apart from one another, and beside headers.
 use Rattle.std.proofs.Common.{◌≡◌, ◌∙◌, sym, ap, subst, refl, ℕ, ◌+◌, ◌-◌, ◌*◌, ◌≤◌, ◌<◌, ◌⊎◌, inl, inr, List, Option, Some, None}
 use Rattle.std.proofs.Common.{IsTrue, length, min, arith}
 use Rattle.std.specs.Prelude.{Contains, IsSomeAnd, IfSome, option_and_then}
@@ -58,7 +58,7 @@ cell-place elf shift cell number is = cases (segment_of elf.segments.items cell.
           offset = place.offset;
         }
 
--- where it stands in the input
+-- where it is in the input
 abbrev pub stands_at : {ps : List Segment} {shift : Shift} {cell : ℕ × ℕ × ℕ} {number : NumberAt} →
     CellPlace ps shift cell number → ℕ
 stands_at {cell = cell} place = place.segment.offset + (cell.0 - place.segment.vaddr)
@@ -120,7 +120,7 @@ numbers-apart ps shift c d n m once first second n_width m_width some more apart
         let moved = moved-more shift.from shift.by (stands_at first) (stands_at second) d.1 behind in
         inr (omega (arith, moved, m_size, first.offset, second.offset))
 
--- The bytes of a cell in the input: where each stands.
+-- The bytes of a cell in the input: the place of each.
 pub cell-offset : (ps : List Segment) (shift : Shift) (cell : ℕ × ℕ × ℕ) (number : NumberAt)
     (place : CellPlace ps shift cell number) (i : ℕ) → LoadOnce ps → i < cell.1 →
     file_offset ps (cell.0 + i) ≡ Some (stands_at place + i)
@@ -144,7 +144,7 @@ cell-offset ps shift cell number place i once below =
     there : p.offset + ((cell.0 + i) - p.vaddr) ≡ (p.offset + (cell.0 - p.vaddr)) + i
     there = let low = place.low in omega arith
 
--- A cell without a byte of a header lies beside the file's header and beside the table.
+-- A cell without a byte of a header is beside the file's header and beside the table.
 pub record IsBesideHeaders (table table_end o w : ℕ) : Type 0 where
   pub header : header_size ≤ o
   pub apart : (o + w ≤ table) ⊎ (table_end ≤ o)

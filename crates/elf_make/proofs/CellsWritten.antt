@@ -147,7 +147,7 @@ module _ (s : Source) (tight : Bool) (w : List ℕ) (read : IsElfOf s.elf.file.n
             ap (λ (k : ℕ). moved_by k made.layout.shift.by at) (keep-behind s tight w read sound made e) ∙ sym moved_at in
             omega (arith, within, same, width)
 
-    -- beside the table in a file with a new segment, where it stands behind all that is loaded
+    -- beside the table in a file with a new segment, where it is after all that is loaded
     beside-above : tight ≡ true → (made.program_headers_at + length (segment_table made.segments) ≤ (put_number i).offset)
         ⊎ ((put_number i).offset + (put_number i).width ≤ made.program_headers_at)
     beside-above e =
@@ -162,7 +162,7 @@ module _ (s : Source) (tight : Bool) (w : List ℕ) (read : IsElfOf s.elf.file.n
         let from = offset-tight s tight w read sound made e in
         inr (omega (arith, stays, width, in_file, ends, offset, from, above))
 
-    -- where it stays or moves with the bytes beside it, and where it is added behind all others
+    -- where it stays or moves with the bytes beside it, and where it is added after all others
     beside-behind : tight ≡ false → (b : Bool) → is_kept_table s.elf made.layout.shift ≡ b →
         (made.program_headers_at + length (segment_table made.segments) ≤ (put_number i).offset)
         ⊎ ((put_number i).offset + (put_number i).width ≤ made.program_headers_at)
@@ -226,7 +226,7 @@ module _ (s : Source) (tight : Bool) (w : List ℕ) (read : IsElfOf s.elf.file.n
         (crosses s tight w read sound made segment (place i below).there) to.0
         (subst (λ (xs : List Segment). Contains xs to.0) (sym (segments-written s tight w made)) to.1) to.2 (stands apart)
 
-  -- all of them lie after the header of the file, and before the tail
+  -- all of them are after the header of the file, and before the tail
   pub cells-between : All (λ p. (header_size ≤ p.offset) × (p.offset + length p.bytes ≤ size_of made.layout.parts))
       (map patch_of made.cells)
   cells-between i e inside =

@@ -1,4 +1,4 @@
--- Where new code has room behind the executable segment, that has memory: one without would start above itself.
+-- Where new code has room after the executable segment, that has memory: one without would start above itself.
 use Rattle.std.proofs.Common.{◌≡◌, sym, ap, subst, refl, ℕ, ◌≤◌, ◌<◌, ◌⊎◌, inl, inr, List, Option, Some, None, Bool, true, false}
 use Rattle.std.proofs.Common.{IsTrue, length, get_or, arith}
 use Rattle.std.specs.Prelude.{nat_lt}
@@ -15,7 +15,7 @@ use Rattle.elf_make.specs.Source.{Source, HasPlace, source_area}
 use Rattle.file_room.proofs.Limits.{limit-below}
 use Rattle.elf_make.proofs.SameBreak.{rounded_up-above}
 
--- a table ends behind what it follows
+-- a table ends after what it follows
 pub table_end-above : (align end : ℕ) (o : Option ℕ) → 0 < align → end ≤ table_end align end o
 table_end-above align end None some = omega arith
 table_end-above align end (Some size) some = let up = rounded_up-above align end some in omega arith
@@ -24,7 +24,7 @@ table_end-above align end (Some size) some = let up = rounded_up-above align end
 pub code_end-is : (ps : List Segment) (code : ℕ) (p : Segment) → executable_segment ps ≡ Some (code, p) → code_end ps ≡ end_of p
 code_end-is ps code p found = ap (λ (o : Option (ℕ × Segment)). option_map_or (λ e. end_of e.1) o 0) found
 
--- the new code lies in the area
+-- the new code is in the area
 pub area-some : (s : Source) (tight : Bool) → HasPlace s tight → (source_area s tight).start < (source_area s tight).end
 area-some s tight placed =
     let some = placed.some in
@@ -46,7 +46,7 @@ code-memory s code p found inside is load placed = cases (cases_lt 0 p.memsz)
     from : code_end ps ≤ area_start ps
     from = rounded_up-above 16 (code_end ps) (omega arith)
 
-    -- without memory it stands at the limit of its own room
+    -- without memory it is at the limit of its own room
     limit : p.memsz ≤ 0 → area_limit ps ≤ area_start ps
     limit none =
         let below =

@@ -1,4 +1,4 @@
--- The new area stands in a written file, and its code in memory, where it may be executed and not written.
+-- The new area is in a written file, and its code in memory, where it may be executed and not written.
 use Rattle.std.proofs.Common.{◌≡◌, ◌∙◌, sym, ap, subst, refl, ℕ, zero, suc, ◌+◌, ◌-◌, ◌*◌, ◌≤◌, ◌<◌, ◌⊎◌, inl, inr, List, Option}
 use Rattle.std.proofs.Common.{Some, None, String, Vec, Bool, true, false, IsTrue, length, map, get_or, arith}
 use Rattle.std.specs.Prelude.{All, Any, Contains, IfSome, codes, ◌||◌}
@@ -47,7 +47,7 @@ use Rattle.elf_make.proofs.PlacesWritten.{count-same}
 use Rattle.elf_make.proofs.SameBreak.{rounded_up-above}
 use Rattle.elf_make.proofs.TableKept.{LoadsRange, loads-range}
 
--- a part of bytes that stand
+-- a part of bytes that are in a file
 stands-part : (file : List ℕ) (o i : ℕ) (bytes part : List ℕ) → Stands file o bytes → Stands bytes i part →
     Stands file (o + i) part
 stands-part file o i bytes part outer inner = record {
@@ -58,7 +58,7 @@ stands-part file o i bytes part outer inner = record {
       ap (λ (k : ℕ). get_or file k 0) here ∙ outer.same (i + j) (omega arith) ∙ inner.same j below;
 }
 
--- a table that starts behind an end starts behind all before that
+-- a table that starts after an end starts after all before that
 starts-at : (align start end : ℕ) (size : Option ℕ) → 0 < align → start ≤ end →
     IfSome (table_start align end size) (λ a. start ≤ a)
 starts-at align start end None some low = tt
@@ -79,7 +79,7 @@ module _ (s : Source) (tight : Bool) (w : List ℕ) (read : IsElfOf s.elf.file.n
   abbrev size : ℕ
   size = length made.layout.bytes.items
 
-  -- where it stands in the file
+  -- where it is in the file
   area-place : area_at ≡ area_offset area area.start
   area-place = cases tight refl
     where
@@ -93,7 +93,7 @@ module _ (s : Source) (tight : Bool) (w : List ℕ) (read : IsElfOf s.elf.file.n
   behind : area_at + size ≤ made.layout.parts.behind_at
   behind = made.laid_out.can.behind
 
-  -- what lies beside it
+  -- what is beside it
   abbrev IsBesideArea : ℕ → ℕ → Type 0
   IsBesideArea o n = (o + n ≤ area_at) ⊎ (area_at + size ≤ o)
 
@@ -238,7 +238,7 @@ module _ (s : Source) (tight : Bool) (w : List ℕ) (read : IsElfOf s.elf.file.n
       cases true e = let above = starts-above s tight w made read sound e in omega (arith, above)
       cases false e = starts-behind s tight w made read sound e
 
-  -- what stands among its bytes
+  -- what is among its bytes
   part-stands : (a : ℕ) (part : List ℕ) → area.start ≤ a → Stands made.layout.bytes.items (a - area.start) part →
       Stands w (area_offset area a) part
   part-stands a part from inner =
@@ -254,7 +254,7 @@ module _ (s : Source) (tight : Bool) (w : List ℕ) (read : IsElfOf s.elf.file.n
       subst (λ (o : ℕ). Stands w o s.code) here
       (stands-part w area_at 0 made.layout.bytes.items s.code area-stands made.laid_out.starts_with)
 
-  -- the tables behind the code
+  -- the tables after the code
   code-ends : (source_area s tight).start ≤ (source_area s tight).code_end
   code-ends = let end : (source_area s tight).start + length s.code ≡ (source_area s tight).code_end = refl in omega (arith, end)
 

@@ -1,4 +1,4 @@
--- The entry point of a written file, and the field that says it, where it is loaded.
+-- The entry point of a written file, and the field that says it, if it is loaded.
 use Rattle.std.proofs.Common.{◌≡◌, ◌∙◌, sym, ap, subst, refl, ℕ, ◌+◌, ◌-◌, ◌≤◌, List, Option, Some, None, Bool, true, false, arith}
 use Rattle.std.specs.Prelude.{Contains, IfSome, find, option_map}
 use Rattle.byteorder.specs.Endian.{little_bytes}

@@ -1,4 +1,4 @@
--- Where the bytes that a file loads end, and where those behind an offset begin.
+-- Where the bytes that a file loads end, and where those after an offset begin.
 use Rattle.std.proofs.Common.{◌≡◌, ◌∙◌, sym, ap, refl, ℕ, ◌+◌, ◌≤◌, ◌<◌, ◌⊎◌, inl, inr, List, [], ◌∷◌, Option, Some, None, Bool}
 use Rattle.std.proofs.Common.{true, false, IsTrue, arith, max, min, map}
 use Rattle.std.specs.Prelude.{Contains, fold, filter, ◌&&◌, nat_le, nat_lt}
@@ -77,7 +77,7 @@ pub ends-below : (ps : List Segment) (p : Segment) → Contains ps p → IsTrue 
     p.offset + p.filesz ≤ loads_end ps
 ends-below ps p there load some = max-above has_file_bytes file_end_of ps 0 p there (has-bytes p load some)
 
--- and those of one behind an offset begin at or behind the first of those
+-- and those of one after an offset begin at or after the first of those
 pub begins-behind : (offset : ℕ) (ps : List Segment) (p : Segment) → Contains ps p → IsTrue (is_load p) → 0 < p.filesz →
     offset ≤ p.offset → (low : ℕ) × (lowest_behind offset ps ≡ Some low) × (low ≤ p.offset)
 begins-behind offset ps p there load some behind =

@@ -27,7 +27,7 @@ use Rattle.elf_make.proofs.Loads.{moved-before}
 use Rattle.elf_make.proofs.MadeInput.{by-tight, input-once, keep-behind, moved-none, offset-tight, tight-is}
 use Rattle.elf_make.proofs.SameBreak.{align-above, rounded_up-above}
 
--- what lies in no range lies before or behind it
+-- what is in no range is before or after it
 outside : (k : ℕ) (r : Range) → is_in_range k r ≡ false → (k < r.start) ⊎ (r.start + r.size ≤ k)
 outside k r not_in = apart-of k r.start r.size in_range
   where
@@ -38,7 +38,7 @@ outside k r not_in = apart-of k r.start r.size in_range
         let within : is_in_range k r ≡ true = ap (λ (b : Bool). b && nat_lt k (r.start + r.size)) low ∙ high in
         absurd (cc)
 
--- what lies in none of some ranges
+-- what is in none of some ranges
 in_none : (k : ℕ) (ranges : List Range) (i : ℕ) (d : Range) → i < length ranges → list_any (is_in_range k) ranges ≡ false →
     is_in_range k (get_or ranges i d) ≡ false
 in_none k ranges i d below beside = cases (is_in_range k (get_or ranges i d)) refl

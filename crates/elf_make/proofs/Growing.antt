@@ -1,4 +1,4 @@
--- The executable segment of a sound file can grow to the end of an area that is laid out behind it.
+-- The executable segment of a sound file can grow to the end of an area that is laid out after it.
 use Rattle.std.proofs.Common.{◌≡◌, ◌∙◌, sym, ap, subst, refl, ℕ, ◌+◌, ◌*◌, ◌≤◌, List, Option, Some, Bool, true, false, length}
 use Rattle.std.proofs.Common.{get_or, arith}
 use Rattle.std.specs.Option.{option_map_or}
@@ -42,7 +42,7 @@ module _ (elf : Elf) (tight : Bool) (code : List ℕ) (frames index : Option ℕ
   whole : p.filesz ≡ p.memsz
   whole = code-whole elf.file.now sound layout.code p found-file
 
-  -- the area ends behind its code
+  -- the area ends after its code
   ends : area_start_of ps tight ≤ layout.area.end
   ends =
       let e : layout.area.end ≡ table_end 4 (table_end 8 (area_start_of ps tight + length code) frames) index =
@@ -51,7 +51,7 @@ module _ (elf : Elf) (tight : Bool) (code : List ℕ) (frames index : Option ℕ
       let second = table_end-above 4 (table_end 8 (area_start_of ps tight + length code) frames) index (omega arith) in
       omega (arith, e, first, second)
 
-  -- and begins behind the executable segment
+  -- and begins after the executable segment
   begins : end_of p ≤ area_start_of ps false
   begins =
       let end : code_end ps ≡ end_of p = ap (λ (o : Option (ℕ × Segment)). option_map_or (λ e. end_of e.1) o 0) laid.found in

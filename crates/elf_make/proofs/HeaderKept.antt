@@ -1,4 +1,4 @@
--- A file that was made keeps the fields of its header that aren't written anew.
+-- A file that was made keeps the fields of its header that aren't rewritten.
 use Rattle.std.proofs.Common.{◌≡◌, ◌∙◌, sym, ap, subst, ℕ, zero, suc, ◌+◌, ◌-◌, ◌≤◌, ◌⊎◌, inl, inr, List, Bool, length}
 use Rattle.std.proofs.Common.{map, take, drop, get_or, arith}
 use Rattle.std.specs.Prelude.{All, slice_range}

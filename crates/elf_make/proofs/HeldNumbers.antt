@@ -23,7 +23,7 @@ use Rattle.elf_make.proofs.Images.{segment_of-once, byte_of-from_file}
 use Rattle.elf_make.proofs.LoadedNumbers.{number_in-holds}
 use Rattle.elf_make.proofs.Loads.{moved-whole}
 
--- A number among the bytes that a segment loads stands in memory where they went.
+-- A number among the bytes that a segment loads is in memory where they went.
 pub number-held : (w : List ℕ) (qs : List Segment) (file_end step : ℕ) (p q : Segment) (a n v : ℕ) → LoadOnce qs → Contains qs q →
     IsNewLoad file_end step p q → IsTrue (is_load p) → CrossesNot file_end p → p.vaddr ≤ a → (a - p.vaddr) + n ≤ p.filesz →
     (a - p.vaddr) + n ≤ p.memsz → 0 < n → v < 256 ^ n →
@@ -63,7 +63,7 @@ number-held w qs file_end step p q a n v once there new load apart low in_file i
         ∙ ap (λ (b : ℕ). Some b)
         (byte_of-from_file w (a + j) q (omega (arith, from, size)) ∙ ap (λ (k : ℕ). get_or w k 0) at ∙ stands.same j below)
 
--- A number that is put stands, where those put with it are apart, and so are those put after it.
+-- A number that is put is there, if those put with it are apart, and so are those put after it.
 pub number-stands : (xs : List ℕ) (numbers : List NumberAt) (later : List Patch) (i : ℕ) (d : NumberAt) → i < length numbers →
     All (IsWithin (length xs)) (map patch_of numbers) → AllPairs AreApart (map patch_of numbers) →
     All (IsWithin (length xs)) later → All (λ p. (p.offset + length p.bytes ≤ (get_or numbers i d).offset)

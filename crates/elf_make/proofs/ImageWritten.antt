@@ -76,7 +76,7 @@ module _ (s : Source) (tight : Bool) (w : List ℕ) (read : IsElfOf s.elf.file.n
   abbrev pub patches : List Patch
   patches = map patch_of made.cells ++ headers s tight w made
 
-  -- The input's bytes lie in the parts.
+  -- The input's bytes are in the parts.
   pub parts-fit : FitSegments parts ps keep step
   parts-fit = cases tight refl
     where
@@ -119,7 +119,7 @@ module _ (s : Source) (tight : Bool) (w : List ℕ) (read : IsElfOf s.elf.file.n
       (subst (λ (n : ℕ). All (IsWithin n) (headers s tight w made)) (with_cells-size s tight w made)
       (headers-within s tight w made))
 
-  -- Where the executable segment ends, and the program headers as they stand in the input.
+  -- Where the executable segment ends, and the program headers as they are in the input.
   end-is : executable_end ps ≡ made.layout.shift.from
   end-is = ap (λ (o : Option (ℕ × Segment)). option_map_or (λ x. x.1.offset + x.1.filesz) o 0) made.laid_out.found
       ∙ sym (from-is s tight w read sound made)

@@ -1,5 +1,5 @@
--- The memory of a written file: what the input's segments loaded is loaded from where their bytes went, and what stands in
--- a segment's bytes stands in memory.
+-- The memory of a written file: what the input's segments loaded is loaded from where their bytes went, and what is in
+-- a segment's bytes is in memory.
 use Rattle.std.proofs.Common.{◌≡◌, ◌∙◌, sym, ap, subst, refl, ℕ, ◌+◌, ◌-◌, ◌≤◌, ◌<◌, ◌⊎◌, inl, inr, List, Option, Some, None}
 use Rattle.std.proofs.Common.{Bool, true, false, IsTrue, length, get_or, arith}
 use Rattle.std.specs.Prelude.{Contains, nat_lt, IsSome, IsFalse, option_map}
@@ -99,7 +99,7 @@ image-carried input output changed ps qs once carries a byte loaded = cases (seg
         let none : None ≡ Some byte = ap (λ (o : Option Segment). option_map (byte_of input a) o) (sym e) ∙ loaded in absurd (cc)
     cases (Some p) e = found p e
 
--- bytes that stand in the part of the file that a segment loads
+-- bytes that are in the part of the file that a segment loads
 pub holds-stands : (file : List ℕ) (qs : List Segment) (q : Segment) (a o : ℕ) (bytes : List ℕ) → LoadOnce qs → Contains qs q →
     IsTrue (is_load q) → q.vaddr ≤ a → o ≡ q.offset + (a - q.vaddr) → (a - q.vaddr) + length bytes ≤ q.filesz →
     q.filesz ≤ q.memsz → Stands file o bytes → HoldsBytes file qs a bytes

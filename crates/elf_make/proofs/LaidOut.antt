@@ -1,4 +1,4 @@
--- How the loaded bytes of the input lie in a written file, beside the new area.
+-- How the loaded bytes of the input are in a written file, beside the new area.
 use Rattle.std.proofs.Common.{◌≡◌, ◌∙◌, sym, refl, ℕ, ◌+◌, ◌≤◌, ◌<◌, ◌⊎◌, inl, inr, List, Option, Some, None, IsTrue, arith}
 use Rattle.std.specs.Prelude.{Contains}
 use Rattle.std.proofs.lemmas.Bool.{cases_lt}
@@ -34,7 +34,7 @@ fit-above ps area parts delta above = record {
         omega arith
     apart p there load before (inr none) = omega arith
 
--- In any other those behind the executable segment move.
+-- In any other those after the executable segment move.
 pub fit-behind : (ps : List Segment) (area : Area) (shift : Shift) (parts : Parts) →
     ((p : Segment) → Contains ps p → CrossesNot shift.from p) → IsBehind ps area shift parts →
     FitSegments parts ps parts.keep shift.by
@@ -75,7 +75,7 @@ fit-behind ps area shift parts apart behind = made (lowest_behind shift.from ps)
             let high_is : parts.high ≡ loads_end ps = moves.1 in
             (omega arith, omega arith)
 
--- A stretch of a segment's bytes stands beside the area, before the tail.
+-- A stretch of a segment's bytes is beside the area, before the tail.
 module _ (parts : Parts) (ps : List Segment) (delta input area : ℕ) (fit : FitSegments parts ps parts.keep delta)
     (can : PartsFit parts input area) where
   front : parts.keep ≤ parts.area_at
@@ -84,7 +84,7 @@ module _ (parts : Parts) (ps : List Segment) (delta input area : ℕ) (fit : Fit
   behind_area : parts.area_at + area ≤ parts.behind_at
   behind_area = can.behind
 
-  -- before the area, or behind it
+  -- before the area, or after it
   data Goes (p : Segment) (k n : ℕ) : Type 0 where
     stays : moved_by parts.keep delta k ≡ k → k + n ≤ parts.keep → Goes p k n
     moves : moved_by parts.keep delta k ≡ k + delta → parts.low ≤ k → k + n ≤ parts.high →

@@ -32,12 +32,12 @@ use Rattle.elf_make.proofs.PlannedOrder.{listed-within}
 use Rattle.elf_make.proofs.SectionsRead.{no_header, section-read, sections-count}
 use Rattle.elf_make.proofs.StandingOrder.{stand-from}
 
--- Where the loaded bytes end, and where the table of program headers and the contents of sections stand.
+-- Where the loaded bytes end, and the places of the table of program headers and of the contents of sections.
 module _ (s : Source) (tight : Bool) (w : List ℕ) (made : IsMade s tight w) where
   abbrev base : ℕ
   base = size_of made.layout.parts
 
-  -- the loaded bytes of the input behind the area, if some moved
+  -- the loaded bytes of the input after the area, if some moved
   moved-end : (o : Option ℕ) → MovesFrom o s.elf.segments.items made.layout.area made.layout.shift made.layout.parts →
       option_map_or (λ low. loads_end s.elf.segments.items + made.layout.shift.by) o
       (area_offset made.layout.area made.layout.area.end) ≡ base

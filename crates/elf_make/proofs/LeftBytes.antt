@@ -1,4 +1,4 @@
--- What is put over a file's bytes leaves the loaded ones as they are, but for those that may change.
+-- What is put over a file's bytes leaves the loaded ones as they are, except for those that may change.
 use Rattle.std.proofs.Common.{◌≡◌, ◌∙◌, sym, ap, subst, refl, ℕ, ◌+◌, ◌-◌, ◌*◌, ◌≤◌, ◌<◌, ◌⊎◌, inl, inr, List, ◌∷◌, Option, Some}
 use Rattle.std.proofs.Common.{Bool, true, false, length, get_or, arith}
 use Rattle.std.specs.Prelude.{slice_index, ◌==◌}
@@ -25,7 +25,7 @@ use Rattle.elf_make.proofs.HiddenBytes.{hides-sizes, hides-offset, hides-place}
 use Rattle.elf_make.proofs.Loads.{moved-before, moved-behind}
 use Rattle.elf_make.proofs.TableBytes.{AreSameBut, no_numbers, same_number, hidden_number, table-same}
 
--- A number in front of the bytes that move.
+-- A number before the bytes that move.
 pub leaves-number : (file_end step o n v k b : ℕ) → o + n ≤ file_end →
     (o ≤ k → k < o + n → get_or (little_bytes n v) (k - o) 0 ≡ b) →
     Leaves (moved_by file_end step k) b (record { offset = o; bytes = little_bytes n v })
@@ -60,7 +60,7 @@ number-left file o n v k bytes is from below =
     ap (λ (w : ℕ). get_or (little_bytes n w) (k - o) 0) is ∙ little_bytes-same file o n (k - o) bytes (omega arith)
     ∙ ap (λ (j : ℕ). get_or file j 0) back
 
--- The table of program headers, where it stands elsewhere ..
+-- The table of program headers, where it is elsewhere ..
 pub leaves-elsewhere : (at k b : ℕ) (table : List ℕ) → k < at → Leaves k b (record { offset = at; bytes = table })
 leaves-elsewhere at k b table below = inl (inl below)
 

@@ -76,7 +76,8 @@ carries-load file written changed segments file_end delta p q keeps there load a
     from_file (inl same) = inl same.0
     from_file (inr grown) = inr (grown.0, grown.1)
 
--- The loaded bytes of a file whose front stands, and whose bytes from the first loaded one behind the executable segment on.
+-- The loaded bytes of a file whose front stays, and whose bytes from the first loaded one after the executable segment
+-- on.
 pub keeps-stretches : (file base : List ℕ) (segments : List Segment) (file_end delta low high keep : ℕ) → file_end ≤ keep →
     ((k : ℕ) → k < keep → get_or base k 0 ≡ get_or file k 0) →
     ((k : ℕ) → low ≤ k → k < high → get_or base (k + delta) 0 ≡ get_or file k 0) →

@@ -25,7 +25,7 @@ use Rattle.std.specs.Prelude.{IfSome, Option}
 use Rattle.elf_make.specs.FileParts.{IsMade, header_numbers, number}
 use Rattle.elf_make.specs.Source.{Source, source_area}
 
--- Numbers of which each begins where the one before has ended or behind it, and the last ends within the file's header.
+-- Numbers of which each begins where the one before has ended or after it, and the last ends within the file's header.
 data AreRising : ℕ → List NumberAt → Type 0 where
   no_more : (low : ℕ) → low ≤ header_size → AreRising low []
   next_number : (low : ℕ) (n : NumberAt) (ns : List NumberAt) → low ≤ n.offset →
@@ -67,7 +67,7 @@ rising-apart low ns (next_number _ n rest from more) (suc i) zero e less below =
 rising-apart low ns (next_number _ n rest from more) (suc i) (suc j) e less below =
     rising-apart (n.offset + n.width) rest more i j e (omega arith) (omega arith)
 
--- numbers that can be put lie within
+-- numbers that can be put are within the file
 pub puts-within : (size : ℕ) (ns : List NumberAt) → All (CanPut size) ns → All (IsWithin size) (map patch_of ns)
 puts-within size ns can k e below =
     let count : length (map patch_of ns) ≡ length ns = length-map ns patch_of in
@@ -120,7 +120,7 @@ module _ (s : Source) (tight : Bool) (w : List ℕ) (made : IsMade s tight w) wh
       (next_number 0x30 _ _ (omega arith)
       (next_number 0x3a _ _ (omega arith) (next_number 0x3e _ _ (omega arith) (no_more 0x40 (omega arith)))))))
 
-  -- fields of the file's header lie in it
+  -- fields of the file's header are in it
   pub fields-in_header : (k : ℕ) (e : Patch) → k < length (header_numbers made.fields) →
       (get_or (map patch_of (header_numbers made.fields)) k e).offset + length
       (get_or (map patch_of (header_numbers made.fields)) k e).bytes ≤ header_size
@@ -181,7 +181,7 @@ module _ (s : Source) (tight : Bool) (w : List ℕ) (made : IsMade s tight w) wh
   e_entry-written = ap e_entry written-is
       ∙ number_at-put_all headers with_cells 0x18 8 made.fields.entry headers-within headers-apart puts-entry entry-fits
 
-  -- where the section headers stand, and how many there are
+  -- the offset of the section headers, and how many there are
   pub e_shoff-written : e_shoff w ≡ made.fields.section_headers_at
   e_shoff-written =
       ap e_shoff written-is

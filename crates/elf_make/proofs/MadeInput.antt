@@ -100,7 +100,7 @@ module _ (s : Source) (tight : Bool) (w : List ℕ) (read : IsElfOf s.elf.file.n
       (crosses_not s.elf.file.now sound made.layout.code made.laid_out.executable found-file p there_in
       (subst (λ (e : ℕ). p.offset < e) from-is before))
 
-  -- Behind the executable segment, in the file, the parts follow its end.
+  -- After the executable segment, in the file, the parts follow its end.
   pub parts-behind : tight ≡ false → FitSegments made.layout.parts ps made.layout.parts.keep made.layout.shift.by
   parts-behind e =
       fit-behind ps made.layout.area made.layout.shift made.layout.parts crosses (made.laid_out.behind (tight-is ∙ e))

@@ -1,4 +1,4 @@
--- The segments of a file that was made: those of the input, and the one in which the new area stands.
+-- The segments of a file that was made: those of the input, and the one with the new area.
 use Rattle.std.proofs.Common.{◌≡◌, ◌∙◌, sym, ap, subst, refl, ℕ, ◌+◌, ◌*◌, ◌≤◌, ◌<◌, ◌⊎◌, inl, inr, List, Bool, true, false}
 use Rattle.std.proofs.Common.{IsTrue, length, get_or, arith}
 use Rattle.std.specs.Prelude.{Contains, not, ◌&&◌, ◌==◌}
@@ -93,7 +93,7 @@ module _ (s : Source) (tight : Bool) (w : List ℕ) (made : IsMade s tight w) wh
     pub area-holds_code : area.start + length s.code ≤ area.end
     area-holds_code = let a = code-ends in let b = area-ends in omega (arith, a, b)
 
-    -- behind its own segment's table, or behind the executable segment
+    -- after its own segment's table, or after the executable segment
     start-tight : tight ≡ true → area.start ≡ area_above ps
     start-tight e = ap (λ (a : Area). a.start) made.laid_out.area ∙ rw e refl
 

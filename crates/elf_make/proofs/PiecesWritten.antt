@@ -75,7 +75,7 @@ written_in_pieces s tight w can is = record {
   sound = is.sound;
 }
 
--- A cell that is loaded lies low.
+-- A cell that is loaded has low addresses.
 
 low_address : (file : List ℕ) → IsSound file → (p : Segment) → Contains (segments_of file) p → (a : ℕ) →
     IsTrue (loads_address a p) → a < ADDRESS_END

@@ -1,4 +1,4 @@
--- Contents that are placed one behind another.
+-- Contents that are placed one after another.
 use Rattle.std.proofs.Common.{◌≡◌, ◌∙◌, sym, ap, subst, refl, ℕ, zero, suc, ◌+◌, ◌-◌, ◌*◌, ◌≤◌, ◌<◌, ◌⊎◌, inl, inr, List, [], ◌∷◌, ◌++◌}
 use Rattle.std.proofs.Common.{length, take, get_or, arith, length-append}
 use Rattle.std.specs.Prelude.{AllPairs, ◌≢◌, Option, fold, map, max, slice_get}

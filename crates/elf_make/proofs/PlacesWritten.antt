@@ -70,7 +70,7 @@ module _ (s : Source) (tight : Bool) (w : List ℕ) (read : IsElfOf s.elf.file.n
       }))
       (λ e. address-tight s tight w read sound made (sym (tight-is s tight w read sound made) ∙ e))
 
-  -- The table of program headers, in a file whose area stands behind its executable segment.
+  -- The table of program headers, in a file whose area is after its executable segment.
   module _ (e : tight ≡ false) where
     not_tight : area.tight ≡ false
     not_tight = tight-is s tight w read sound made ∙ e
@@ -102,7 +102,7 @@ module _ (s : Source) (tight : Bool) (w : List ℕ) (read : IsElfOf s.elf.file.n
     end-is : code_file_end ps ≡ from
     end-is = ap file_end_of (code_segment-is s tight w read sound made) ∙ sym (from-is s tight w read sound made)
 
-    -- bytes that move go behind it
+    -- bytes that move go after it
     step-enough : (low : ℕ) → lowest_behind from ps ≡ Some low → area_end ≤ low + by
     step-enough low found =
         let step : by
@@ -227,7 +227,7 @@ module _ (s : Source) (tight : Bool) (w : List ℕ) (read : IsElfOf s.elf.file.n
     some_headers : 0 < table_size
     some_headers = let inside = code-inside s tight w read sound made in omega (arith, inside)
 
-    -- behind the executable segment it moves with the segment that loads it, behind the area
+    -- after the executable segment it moves with the segment that loads it, after the area
     table-behind : from ≤ s.elf.phoff → list_any (loads_range (table_of s.elf)) ps ≡ true → area_end ≤ s.elf.phoff + by
     table-behind behind found = cases (cases_lt x.offset from)
       where
@@ -258,7 +258,7 @@ module _ (s : Source) (tight : Bool) (w : List ℕ) (read : IsElfOf s.elf.file.n
             let below = first.2 in
             omega (arith, enough, below, low)
 
-    -- where it stands
+    -- its place
     stands : StandsAlike from by area_end s.elf.phoff table_size ps made.are_headers.renewed made.program_headers_at
     stands = cases (is_kept_table s.elf made.layout.shift) refl (cases_lt s.elf.phoff from)
       where

@@ -1,5 +1,5 @@
 -- The break of a written file is the input's: its writable segments are those of the input, no other one starts elsewhere, and
--- a segment of the area's own lies above all that the break reaches.
+-- a segment of the area's own is above all that the break reaches.
 use Rattle.std.proofs.Common.{◌≡◌, ◌∙◌, sym, ap, subst, refl, ℕ, zero, suc, ◌+◌, ◌-◌, ◌/◌, ◌%◌, ◌≤◌, ◌<◌, ◌⊎◌, inl, inr, List, []}
 use Rattle.std.proofs.Common.{◌∷◌, Bool, true, false, IsTrue, length, get_or, arith, min, max}
 use Rattle.std.specs.Prelude.{map, filter, fold, ◌&&◌, ◌==◌, not, nat_le, nat_lt, if◌then◌else◌}
@@ -217,7 +217,7 @@ keeps-break ps qs end bound = (
   sym (ap (λ (e : ℕ). bound_by e qs) end ∙ bound),
 )
 
--- A new segment that isn't written and lies above.
+-- A new segment that isn't written and is above.
 
 pub rounded_up-above : (unit n : ℕ) → 0 < unit → n ≤ rounded_up unit n
 rounded_up-above unit n some = above (rounded_up unit n) ((n + (unit - 1)) % unit) (div-add-mod' (n + (unit - 1)) unit)

@@ -52,7 +52,7 @@ no_header = record {
   entsize = 0;
 }
 
--- a section says what a header does, but for its name
+-- a section says what a header does, except for its name
 pub record SaysHeader (h : SectionHeader) (n : Section) : Type 0 where
   pub kind : n.kind ≡ h.kind
   pub flags : n.flags ≡ h.flags

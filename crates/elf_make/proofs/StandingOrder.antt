@@ -1,4 +1,4 @@
--- Contents that were placed one behind another stand so by what is read of the section headers.
+-- Contents that were placed one after another are so by what is read of the section headers.
 use Rattle.std.proofs.Common.{◌≡◌, ◌∙◌, sym, ap, subst, refl, ℕ, ◌+◌, ◌-◌, ◌<◌, List, [], ◌∷◌, ◌++◌, Option, Some, max}
 use Rattle.std.proofs.Common.{length, take, get_or, slice_get, arith, length-append}
 use Rattle.std.specs.Prelude.{All, Contains, IsSomeAnd}
@@ -72,6 +72,6 @@ module _ (sections : List Section) (bytes : ℕ → List ℕ) (base start : ℕ)
         ),
       )
 
-  -- the field `stand` of a file's layout, but for the table of ranges
+  -- the field `stand` of a file's layout, except for the table of ranges
   pub stand-from : StandFrom sections start indices (after indices)
   stand-from = standing [] indices refl

@@ -14,7 +14,7 @@ use Rattle.elf_parts.specs.Spellings.{Number, number, spelled, segment_numbers, 
 use Rattle.elf_parts.proofs.SameBytes.{little_bytes-same}
 use Rattle.elf_parts.proofs.Spellings.{length-segment_bytes}
 
--- Two lists of numbers that stand at a place agree but where it is hidden.
+-- Two lists of numbers that are at a place agree but where it is hidden.
 pub data AreSameBut (Hidden : ℕ → Type 0) : ℕ → List Number → List Number → Type 0 where
   no_numbers : (o : ℕ) → AreSameBut Hidden o [] []
   same_number : (o n v : ℕ) (ns ms : List Number) → AreSameBut Hidden (o + n) ns ms →
@@ -111,7 +111,7 @@ segment-read file o =
     (reads (o + 4 + 4 + 8 + 8 + 8 + 8) 8 (o + 40) _ (omega arith)
     (reads (o + 4 + 4 + 8 + 8 + 8 + 8 + 8) 8 (o + 48) _ (omega arith) (no_more _))))))))
 
--- A table that stands where that of the input stood has the same bytes, but where it is hidden.
+-- A table in the place of the input's has the same bytes, except where it is hidden.
 pub table-same : (file : List ℕ) (Hidden : ℕ → Type 0) (o : ℕ) (n : ℕ) (qs : List Segment) →
     ((j : ℕ) → slice_index file j < 256) → length qs ≡ n → ((i : ℕ) (d : Segment) → i < n → AreSameBut Hidden (o + PHDR_SIZE * i)
     (segment_numbers (get_or qs i d)) (segment_numbers (segment_at file (o + PHDR_SIZE * i)))) → (j : ℕ) → j < PHDR_SIZE * n →

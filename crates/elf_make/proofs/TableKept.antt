@@ -65,7 +65,7 @@ pub record GrowsTo (file_end area_end : ℕ) (p q : Segment) : Type 0 where
   pub whole : p.offset + p.filesz ≡ file_end
   pub within : q.offset + q.filesz ≤ area_end
 
--- A range of the file stands in front of the end, or moves with loaded bytes behind the area; or it isn't loaded at all.
+-- A range of the file is before the end, or moves with loaded bytes after the area; or it isn't loaded at all.
 pub data StandsAlike (file_end step area_end start size : ℕ) (ps qs : List Segment) : ℕ → Type 0 where
   stays : start < file_end → start + size ≤ file_end → StandsAlike file_end step area_end start size ps qs start
   moves : file_end ≤ start → area_end ≤ start + step → StandsAlike file_end step area_end start size ps qs (start + step)
@@ -100,7 +100,7 @@ module _ (file_end step end area_end start size : ℕ) (tight grown : Bool) (p q
           let g = more.2 in
           inl (omega (arith, same), same)
 
-  -- where it has bytes of the file, it had some
+  -- if it has bytes of the file, it had some
   pub had_bytes : IsTrue (is_load p) → 0 < q.filesz → 0 < p.filesz
   had_bytes load bytes = cases (sized load)
     where
@@ -115,7 +115,7 @@ module _ (file_end step end area_end start size : ℕ) (tight grown : Bool) (p q
       cases (inl same) = let e : q.filesz ≡ p.filesz = same.0 in let f : q.memsz ≡ p.memsz = same.1 in (omega arith, omega arith)
       cases (inr more) = let e = more.1 in let f = more.2 in let g = more.3 in (omega arith, omega arith)
 
-  -- a range in front of the end
+  -- a range before the end
   kept-stays : start < file_end → start + size ≤ file_end → LoadsRange start size p → LoadsRange start size q
   kept-stays low within has =
       let from = has.from in
@@ -168,7 +168,7 @@ module _ (file_end step end area_end start size : ℕ) (tight grown : Bool) (p q
           let from = has.from in
           record { load = load; from = omega (arith, place); in_file = omega (arith, whole); in_memory = omega (arith, whole, e) }
 
-  -- one that moves behind the area
+  -- one that moves after the area
   kept-moves : file_end ≤ start → LoadsRange start size p → LoadsRange (start + step) size q
   kept-moves behind has = cases (cases_lt p.offset file_end)
     where
@@ -253,7 +253,7 @@ module _ (file_end step end area_end start size : ℕ) (tight grown : Bool) (p q
           let at : q.vaddr ≡ p.vaddr = (renewed.load has.load).vaddr in
           omega (arith, place, at)
 
--- where it is loaded, 0 where it isn't
+-- where it is loaded, 0 if it isn't
 abbrev pub range_address : ℕ → ℕ → List Segment → ℕ
 range_address start size segments =
     option_map_or (address_in (range_at start size)) (find (loads_range (range_at start size)) segments) 0

@@ -1,4 +1,4 @@
--- What the tail of a file that was made has after the table of program headers stands in the file.
+-- What the tail of a file that was made has after the table of program headers is in the file.
 use Rattle.std.proofs.Common.{◌≡◌, ◌∙◌, sym, ap, subst, refl, ℕ, zero, suc, ◌+◌, ◌*◌, ◌≤◌, ◌<◌, ◌⊎◌, inl, inr, List, Bool, true}
 use Rattle.std.proofs.Common.{false, length, map, arith}
 use Rattle.std.specs.Prelude.{All, Any, Contains, ◌||◌}
@@ -106,7 +106,7 @@ module _ (s : Source) (tight : Bool) (w : List ℕ) (read : IsElfOf s.elf.file.n
             Any-from_list_any (loads_range (table_of s.elf)) ps found in
             loaded-before any.1 (any.0, any.2, any.3) (loads-range s.elf.phoff (PHDR_SIZE * length ps) any.1 any.4)
 
-    -- .. or in front of them
+    -- .. or before them
     end-loose : (b : Bool) → is_kept_table s.elf made.layout.shift ≡ b → end ≤ start
     end-loose true kept =
         let at = made.table_place.kept loose kept in
@@ -142,7 +142,7 @@ module _ (s : Source) (tight : Bool) (w : List ℕ) (read : IsElfOf s.elf.file.n
         let order = keep-before in
         inl (omega (arith, in_header, header, order))
 
-    -- the bytes `xs` of the tail stand in the file
+    -- the bytes `xs` of the tail are in the file
     pub tail-written : Stands w (base + o) xs
     tail-written =
         subst (λ (f : List ℕ). Stands f (base + o) xs) (sym (written-is s tight w made))

@@ -16,8 +16,8 @@ use Rattle.elf_parts.proofs.JoinedParts.{front-byte, behind-byte}
 use Rattle.elf_make.proofs.Loads.{KeepsLoaded, carries-load, keeps-stretches}
 use Rattle.elf_parts.proofs.SameBytes.{get_or-put_all_leaves}
 
--- All that the input loads is in the parts: what lies before the executable segment's end in the front, and the rest between
--- low and high.
+-- All that the input loads is in the parts: what is before the executable segment's end in the front, and the rest
+-- between low and high.
 pub record FitSegments (parts : Parts) (ps : List Segment) (file_end delta : ℕ) : Type 0 where
   pub enough : file_end ≤ parts.keep
   pub moved : parts.low < parts.high → parts.low + delta ≡ parts.behind_at

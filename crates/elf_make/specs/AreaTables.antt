@@ -1,4 +1,4 @@
--- The bytes of the new area in a written file: the new code, and the tables that are loaded behind it.
+-- The bytes of the new area in a written file: the new code, and the tables that are loaded after it.
 use Rattle.std.specs.Prelude.{ℕ, ◌-◌, List, Bool, IfSome, String, Vec, codes}
 use Rattle.elf_parts.specs.Patches.{Stands}
 use Rattle.elf_make.specs.declared.layout.Layout.{Layout}
@@ -7,7 +7,7 @@ use Rattle.elf_make.specs.MadeSections.{HasSections}
 use Rattle.elf_plan.specs.NewSections.{bytes_called}
 use Rattle.elf_make.specs.Source.{Source}
 
--- The tables stand among the bytes of an area.
+-- The tables are among the bytes of an area.
 pub record HoldsTables {Y Z : Type 0} (tables : List (String Y × Vec ℕ Z)) (layout : Layout) : Type 0 where
   pub frames : IfSome layout.area.frames
       (λ a. Stands layout.bytes.items (a - layout.area.start) (bytes_called tables (codes ".eh_frame")))

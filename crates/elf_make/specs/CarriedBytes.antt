@@ -4,8 +4,8 @@ use Rattle.std.specs.Prelude.{slice_index, length}
 use Rattle.elf_image.specs.declared.segment.Segment.{Segment}
 use Rattle.elf_image.specs.memory.Image.{image_byte, is_load, is_loaded_with}
 
--- A loaded segment of the input, and the one of the written file that loads the same. Its memory may have
--- grown at the end. Of the addresses that may have changed nothing is asked but that they are loaded.
+-- A loaded segment of the input, and the one of the written file that loads the same. Its memory may have grown at the
+-- end. Of the addresses that may have changed nothing is asked except that they are loaded.
 pub record CarriesSegment (input output : List ℕ) (changed : ℕ → Bool) (p q : Segment) : Type 0 where
   pub loaded : IsTrue (is_load q)
   pub flags : q.flags ≡ p.flags

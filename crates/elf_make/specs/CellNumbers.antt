@@ -22,8 +22,7 @@ unfoldable pub byte_cells : ℕ → ℕ → ℕ → List (ℕ × ℕ × ℕ)
 byte_cells address zero value = []
 byte_cells address (suc n) value = (address, 1, value % 256) ∷ byte_cells (address + 1) n (value / 256)
 
--- A cell that lies in more than one segment is written byte by byte, since its bytes needn't stand together in the
--- file.
+-- A cell that is in more than one segment is written byte by byte, since its bytes needn't be together in the file.
 abbrev pub pieces_of : List Segment → ℕ × ℕ × ℕ → List (ℕ × ℕ × ℕ)
 pieces_of segments cell = if is_whole segments cell then cell ∷ [] else byte_cells cell.0 cell.1 cell.2
 
@@ -36,7 +35,7 @@ in_pieces s = record s { cells = pieces s.elf.segments.items s.cells }
 
 -- Their numbers.
 
--- One segment loads all bytes of a cell from the file, and the number stands where the first of them went.
+-- One segment loads all bytes of a cell from the file, and the number is at the place of the first of them.
 pub record CellStandsIn (shift : Shift) (cell : ℕ × ℕ × ℕ) (number : NumberAt) (p : Segment) : Type 0 where
   pub inside : (cell.0 - p.vaddr) + cell.1 ≤ min p.filesz p.memsz
   pub offset : number.offset ≡ moved_by shift.from shift.by (p.offset + (cell.0 - p.vaddr))

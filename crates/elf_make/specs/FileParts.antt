@@ -24,8 +24,8 @@ use Rattle.elf_plan.specs.NewSegments.{AreNewHeaders}
 use Rattle.elf_make.specs.PartPlaces.{IsAbove, IsBehind}
 use Rattle.elf_make.specs.Source.{Source}
 
--- Where the loaded bytes of the input and the new area stand, for the new code and for tables of the sizes `frames` and
--- `index`.
+-- The places of the loaded bytes of the input and of the new area, for the new code and tables of the sizes `frames`
+-- and `index`.
 pub record IsLaidOut (elf : Elf) (tight : Bool) (code : List ℕ) (frames index : Option ℕ)
     (layout : Layout) : Type 0 where
   pub executable : Segment
@@ -38,7 +38,7 @@ pub record IsLaidOut (elf : Elf) (tight : Bool) (code : List ℕ) (frames index 
   pub above : layout.area.tight ≡ true → IsAbove elf.segments.items layout.area layout.parts
   pub behind : layout.area.tight ≡ false → IsBehind elf.segments.items layout.area layout.shift layout.parts
 
--- Where the table of program headers stands in the written file, whose tail begins at `base`.
+-- Where the table of program headers is in the written file, whose tail begins at `base`.
 pub record IsTablePlace (elf : Elf) (area : Area) (shift : Shift) (base at : ℕ) : Type 0 where
   pub header : 64 ≤ at
   pub above : area.tight ≡ true → at ≡ area.offset
@@ -61,8 +61,8 @@ header_numbers fields =
     number 0x18 8 fields.entry ∷ number 0x20 8 fields.program_headers_at ∷ number 0x28 8 fields.section_headers_at
     ∷ number 0x38 2 fields.segments ∷ number 0x3c 2 fields.sections ∷ number 0x3e 2 fields.names ∷ []
 
--- The parts and a tail, with code cells, the table of program headers and fields of the file's header put
--- over their bytes. All lie within the file.
+-- The parts and a tail, with code cells, the table of program headers and fields of the file's header put over their
+-- bytes. All are within the file.
 pub record IsPut (layout : Layout) (input tail : List ℕ) (cells : List NumberAt) (segments : List Segment)
     (fields : List NumberAt) (program_headers_at : ℕ) (w : List ℕ) : Type 0 where
   pub fit : All SegmentFits segments
@@ -79,7 +79,7 @@ pub record IsMade (s : Source) (tight : Bool) (w : List ℕ) : Type 0 where
   -- the code cells
   pub cells : List NumberAt
   pub are_cells : AreCellNumbers s.elf layout.shift s.cells cells
-  -- the program headers, and where their table stands
+  -- the program headers, and the offset of their table
   pub segments : List Segment
   pub are_headers : AreNewHeaders layout.shift.from layout.shift.by layout.area layout.code s.elf.segments.items
       segments

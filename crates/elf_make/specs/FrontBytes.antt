@@ -1,5 +1,5 @@
--- The bytes in front of what a rewriting adds that a program doesn't find in its memory, or finds unused; and those
--- behind it that move with a segment, but aren't in its memory.
+-- The bytes before what a rewriting adds that a program doesn't find in its memory, or finds unused; and those after it
+-- that move with a segment, but aren't in its memory.
 use Rattle.std.specs.Prelude.{◌≡◌, ◌⊎◌, ℕ, ◌+◌, ◌<◌, ◌≤◌, ◌++◌, not, min, if◌then◌else◌, Bool, true, false, List, ◌∷◌}
 use Rattle.std.specs.Prelude.{Contains, IsTrue, IsFalse, slice_index}
 use Rattle.std.specs.List.{list_any}
@@ -13,8 +13,8 @@ use Rattle.elf_plan.specs.declared.area.Area.{Area}
 use Rattle.elf_plan.specs.Area.{code_file_end, loads_end, shift_of}
 use Rattle.elf_plan.specs.FileLayout.{table_of}
 
--- Up to where no byte of the file moves: the end of the executable segment, or that of all loaded bytes
--- where the area has a segment of its own.
+-- Up to where no byte of the file moves: the end of the executable segment, or that of all loaded bytes if the area has
+-- a segment of its own.
 abbrev pub front_end : List Segment → Bool → ℕ
 front_end segments tight = if tight then loads_end segments else code_file_end segments
 
@@ -32,13 +32,13 @@ abbrev pub IsLeft : Elf → Bool → ℕ → Type 0
 IsLeft elf tight k = ((p : Segment) → Contains elf.segments.items p → LoadsByte k p → ⊥)
     ⊎ ((tight ≡ true) × IsTrue (is_in_range k (table_of elf)))
 
--- All such bytes before `front_end` are as they were, but for what is written there.
+-- All such bytes before `front_end` are as they were, except for what is written there.
 abbrev pub KeepsFront : Elf → Bool → List ℕ → Type 0
 KeepsFront elf tight w = (k : ℕ) → k < front_end elf.segments.items tight → IsLeft elf tight k →
     IsFalse (list_any (is_in_range k) (written_ranges elf tight)) → slice_index w k ≡ slice_index elf.file.now k
 
--- Where the area has no segment of its own, bytes of the file that a segment behind the executable one names, but
--- doesn't load, since its p_filesz is above its p_memsz, move with those that it loads.
+-- If the area has no segment of its own, bytes of the file that a segment after the executable one names, but doesn't
+-- load, since its p_filesz is above its p_memsz, move with those that it loads.
 abbrev pub KeepsBehind : Elf → Area → List ℕ → Type 0
 KeepsBehind elf area w =
     let shift = shift_of elf.segments.items area in

@@ -1,4 +1,4 @@
--- How the parts of a written file lie beside the new area.
+-- How the parts of a written file are beside the new area.
 use Rattle.std.specs.Prelude.{◌≡◌, ℕ, ◌+◌, ◌≤◌, List, Option, Some, None}
 use Rattle.elf_image.specs.declared.segment.Segment.{Segment}
 use Rattle.elf_parts.specs.declared.parts.Parts.{Parts}
@@ -6,7 +6,7 @@ use Rattle.elf_plan.specs.declared.area.Area.{Area}
 use Rattle.elf_plan.specs.declared.area.Shift.{Shift}
 use Rattle.elf_plan.specs.Area.{loads_end, lowest_behind, area_offset}
 
--- the area in a segment of its own, behind all bytes that the file loads
+-- the area in a segment of its own, after all bytes that the file loads
 pub record IsAbove (segments : List Segment) (area : Area) (parts : Parts) : Type 0 where
   pub keeps : loads_end segments ≤ parts.keep
   pub place : parts.area_at ≡ area_offset area area.start
@@ -14,7 +14,7 @@ pub record IsAbove (segments : List Segment) (area : Area) (parts : Parts) : Typ
   pub low : parts.low ≡ 0
   pub high : parts.high ≡ 0
 
--- the area behind the executable segment: what is loaded there moves, if there is anything
+-- the area after the executable segment: what is loaded there moves, if there is anything
 abbrev pub MovesFrom : Option ℕ → List Segment → Area → Shift → Parts → Type 0
 MovesFrom None segments area shift parts = (parts.low ≡ 0) × (parts.high ≡ 0)
     × (parts.behind_at ≡ area_offset area area.end)

@@ -1,4 +1,4 @@
--- The contents of sections that are written one behind another, and their headers. gABI, "Section Header".
+-- The contents of sections that are written one after another, and their headers. gABI, "Section Header".
 use Rattle.std.specs.Prelude.{◌≡◌, ℕ, ◌+◌, ◌-◌, ◌<◌, max, min, List, [], length, take, fold, slice_get, slice_index_or}
 use Rattle.std.specs.Option.{option_map_or}
 use Rattle.elf_image.specs.declared.elf.Elf.{Elf}
@@ -16,7 +16,7 @@ use Rattle.elf_plan.specs.declared.area.Shift.{Shift}
 use Rattle.elf_plan.specs.declared.section_bytes.TheConstants.{SHT_NULL}
 use Rattle.elf_make.specs.declared.headers.NewContents.{NewContents}
 
--- The bytes that are written for a section; none where its contents aren't written.
+-- The bytes that are written for a section; none if its contents aren't written.
 abbrev pub written_bytes : NewContents → List ℕ → Contents → Section → List ℕ
 written_bytes new file Dropped s = []
 written_bytes new file Inactive s = []
@@ -34,22 +34,22 @@ bytes_at new elf contents i =
     option_map_or (λ s. option_map_or (λ c. written_bytes new elf.file.now c s) (slice_get contents i) [])
     (slice_get elf.sections.items i) new.ranges.now
 
--- A header got the place and the size of its contents `bytes`: the least multiple of its alignment at or behind `end`.
--- There they stand in `tail`, which begins at the offset `base`.
+-- A header got the place and the size of its contents `bytes`: the least multiple of its alignment at or after `end`.
+-- There they are in `tail`, which begins at the offset `base`.
 pub record IsPlaced (base end : ℕ) (bytes tail : List ℕ) (s n : SectionHeader) : Type 0 where
   pub offset : n.offset ≡ rounded_up (max 1 s.align) end
   pub size : n.size ≡ length bytes
   pub same : n ≡ record s { offset = n.offset; size = n.size }
   pub stands : Stands tail (n.offset - base) bytes
 
--- where the contents of an index end that stand behind `end`, and those of many
+-- where the contents of an index end that are after `end`, and those of many
 abbrev pub end_behind : (ℕ → List ℕ) → List SectionHeader → SectionHeader → ℕ → ℕ → ℕ
 end_behind bytes headers d end i = rounded_up (max 1 (slice_index_or headers i d).align) end + length (bytes i)
 
 abbrev pub ends_behind : (ℕ → List ℕ) → List SectionHeader → SectionHeader → ℕ → List ℕ → ℕ
 ends_behind bytes headers d end indices = fold (end_behind bytes headers d) end indices
 
--- The contents `bytes` of the sections `indices` stand one behind another, from `start` on, and their headers say so; no
+-- The contents `bytes` of the sections `indices` are one after another, from `start` on, and their headers say so; no
 -- other header was changed.
 pub record ArePlaced (bytes : ℕ → List ℕ) (indices : List ℕ) (base start : ℕ) (tail : List ℕ)
     (old new : List SectionHeader) : Type 0 where

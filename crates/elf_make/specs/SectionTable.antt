@@ -21,7 +21,7 @@ abbrev pub AreCapped : ℕ → List SectionHeader → List SectionHeader → Typ
 AreCapped end old new =
     (k : ℕ) (d : SectionHeader) → k < length old → slice_index_or new k d ≡ capped end (slice_index_or old k d)
 
--- The table of `headers` stands at the offset `at`, the least multiple of 8 at or after `end`. The file ends with it, and
+-- The table of `headers` is at the offset `at`, the least multiple of 8 at or after `end`. The file ends with it, and
 -- `tail` has the bytes of the file from the offset `base` on.
 pub record EndsWith (base end : ℕ) (tail : List ℕ) (at : ℕ) (headers : List SectionHeader) : Type 0 where
   pub place : at ≡ rounded_up 8 end
@@ -30,8 +30,8 @@ pub record EndsWith (base end : ℕ) (tail : List ℕ) (at : ℕ) (headers : Lis
   pub stands : Stands tail (at - base) (section_table headers)
   pub size : base + length tail ≡ at + SHDR_SIZE * length headers
 
--- The contents of sections stand in the tail of a file from the offset `start` on, and the table of their headers, at `at`,
--- ends the file.
+-- The contents of sections are in the tail of a file from the offset `start` on, and the table of their headers, at
+-- `at`, ends the file.
 pub record ArePut {Y Z : Type 0} (elf : Elf) (tables : List (String Y × Vec ℕ Z)) (contents : List Contents)
     (order : List (ℕ × ℕ)) (base start : ℕ) (tail : List ℕ) (at : ℕ) (headers : List SectionHeader) : Type 0 where
   -- the contents that are written, and the bytes of the tail up to where they end
@@ -47,5 +47,5 @@ pub record ArePut {Y Z : Type 0} (elf : Elf) (tables : List (String Y × Vec ℕ
   pub count : length headers ≡ length placed
   pub are_capped : AreCapped (base + length tail) placed headers
   pub ends : EndsWith base (base + length front) tail at headers
-  -- the new code has a section behind those of the input
+  -- the new code has a section after those of the input
   pub more : length elf.sections.items < length set

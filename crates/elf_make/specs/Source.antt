@@ -1,4 +1,4 @@
--- What a file is written of, and where its new code stands.
+-- What a file is written of, and the place of its new code.
 use Rattle.std.specs.Prelude.{ℕ, ◌+◌, ◌-◌, ◌<◌, ◌≤◌, ◌||◌, if◌then◌else◌, Bool, List, Option, String, Vec, codes}
 use Rattle.std.specs.Prelude.{length}
 use Rattle.std.specs.List.{list_any}
@@ -37,8 +37,8 @@ source_of elf emitted spans tables = record {
 abbrev pub source_area : Source → Bool → Area
 source_area s tight = area_of s.elf.segments.items tight (length s.code) s.frames s.index
 
--- The map puts the new code behind the executable segment, or in a segment of its own if tight, and all of the new
--- area has room there.
+-- The map puts the new code after the executable segment, or in a segment of its own if tight, and all of the new area
+-- has room there.
 pub record HasPlace (s : Source) (tight : Bool) : Type 0 where
   pub some : 0 < length s.code
   pub stretch : IsStretch s.spans (area_start_of s.elf.segments.items tight)

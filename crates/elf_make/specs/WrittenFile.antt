@@ -48,14 +48,14 @@ pub record IsWritten (s : Source) (tight : Bool) (w : List ℕ) : Type 0 where
   pub image : CarriesImage s.elf.file.now w (is_changed s tight) s.elf.segments.items (segments_of w)
   -- up to where no byte moves, bytes that no segment loads are as they were, and those of a table that is replaced
   pub front : KeepsFront s.elf tight w
-  -- and behind that, bytes that a segment names and doesn't load have moved with it
+  -- and after that, bytes that a segment names and doesn't load have moved with it
   pub behind : KeepsBehind s.elf (source_area s tight) w
   -- the new code is there, and may be executed and not written
   pub code : HoldsBytes w (segments_of w) (source_area s tight).start s.code
   pub executable : AreCodeBytes (executable_of w) (source_area s tight).start (length s.code)
   -- each code cell holds its content
   pub cells : All (λ cell. number_in (memory_of (executable_of w)) cell.0 cell.1 ≡ Some cell.2) s.cells
-  -- the entry point is where the input's went, and the field that says so too, where it is loaded
+  -- the entry point is where the input's went, and the field that says so too, if it is loaded
   pub entry : moved s.spans s.elf.entry ≡ Some (e_entry w)
   pub entry_field : IfSome (address_of s.elf e_entry_field)
       (λ a. number_in (memory_of (executable_of w)) a 8 ≡ Some (e_entry w))

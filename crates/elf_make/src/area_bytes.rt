@@ -1,4 +1,4 @@
-// The bytes of the new area: the new code, and the tables that are loaded behind it.
+// The bytes of the new area: the new code, and the tables that are loaded after it.
 ghost use Rattle.std.specs.Prelude.{◌≡◌, ◌-◌, ℕ, List, IfOk, IfSome, OnOk, codes};
 ghost use Rattle.elf_parts.specs.Patches.{Stands};
 ghost use Rattle.elf_plan.specs.NewSections.{bytes_called};

@@ -34,7 +34,7 @@ fn add_bytes(pieces: &mut Vec<(u64, u8, u64)>, cell: &(u64, u8, u64)) -> Result<
     Ok(())
 }
 
-// Adds `cell`, or its bytes where no segment loads it whole.
+// Adds `cell`, or its bytes if no segment loads it whole.
 fn add_pieces(
     pieces: &mut Vec<(u64, u8, u64)>,
     elf: &Elf,
@@ -51,7 +51,7 @@ fn add_pieces(
     }
 }
 
-// All cells, in pieces that each lie in one segment.
+// All cells, in pieces that each are in one segment.
 fn pieces(
     alloc: Global,
     elf: &Elf,
@@ -67,7 +67,7 @@ fn pieces(
     Ok(pieces)
 }
 
-// `cell` as a number at its offset in the written file. `Layout` where no segment loads it whole from the file.
+// `cell` as a number at its offset in the written file. `Layout` if no segment loads it whole from the file.
 fn cell_number(elf: &Elf, shift: &Shift, cell: &(u64, u8, u64)) -> Result<NumberAt, Unwritable>
     ensures { IfOk result (IsCellNumber elf.now shift.now cell.now) }
 {
@@ -100,7 +100,7 @@ fn numbers_of(
     Ok(numbers)
 }
 
-/// All code cells, in their order: each as one number where a segment loads it whole, and else as its bytes.
+/// All code cells, in their order: each as one number where a segment loads it whole, and otherwise as its bytes.
 pub fn cell_numbers(
     alloc: Global,
     elf: &Elf,

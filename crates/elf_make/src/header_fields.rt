@@ -1,4 +1,4 @@
-// The fields of the ELF header that are written anew. gABI, "ELF Header".
+// The fields of the ELF header that are rewritten. gABI, "ELF Header".
 ghost use Rattle.std.specs.Prelude.{◌≡◌};
 ghost use Rattle.elf_make.specs.FileParts as spec;
 
@@ -7,7 +7,7 @@ use elf_parts::NumberAt;
 use rb_bytes::fault::NoMemory;
 use std::alloc::Global;
 
-/// What the fields of the ELF header say that are written anew.
+/// What the fields of the ELF header say that are rewritten.
 #[derive(Clone, Copy)]
 pub struct HeaderFields {
     /// The entry point.

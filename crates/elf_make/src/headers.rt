@@ -1,4 +1,4 @@
-// The section headers of a written file, and the contents behind its loaded bytes. gABI, "Section Header".
+// The section headers of a written file, and the contents after its loaded bytes. gABI, "Section Header".
 ghost use Rattle.std.specs.Prelude.{◌≡◌, ◌≢◌, ◌+◌, ◌-◌, ◌<◌, ◌≤◌, ◌++◌, ℕ, List, All, AllPairs, IfOk, OnOk};
 ghost use Rattle.std.specs.Prelude.{length, map, slice_index_or};
 ghost use Rattle.elf_image.specs.declared.section.SectionHeader.{SectionHeader};
@@ -25,7 +25,7 @@ use elf_plan::sections::Contents;
 use elf_plan::unwritable::Unwritable;
 use std::alloc::Global;
 
-// The contents of an output end at most behind `MOST_TIMES` times the bytes of the input and `MOST_ZEROS`. Huge
+// The contents of an output end at most after `MOST_TIMES` times the bytes of the input and `MOST_ZEROS`. Huge
 // alignments of sections may ask for more.
 const MOST_TIMES: u64 = 32;
 
@@ -38,7 +38,7 @@ const FRAMES_ALIGN: u64 = 8;
 
 const INDEX_ALIGN: u64 = 4;
 
-/// The contents of sections that are written anew, and of those that are given.
+/// The contents of sections that are rewritten, and of those that are given.
 #[derive(Clone, Copy)]
 pub struct NewContents<'a> {
     pub section_names: &'a [u8],
@@ -49,7 +49,7 @@ pub struct NewContents<'a> {
     pub ranges: &'a [u8],
 }
 
-/// The headers of the input's sections, with new names, which are added to `names`, where sections are renamed.
+/// The headers of the input's sections, with new names, which are added to `names`, if sections are renamed.
 pub fn old_headers(
     alloc: Global,
     elf: &Elf,
@@ -72,7 +72,7 @@ pub fn old_headers(
     Ok(headers)
 }
 
-// The header of a section of `size` bytes at the address `addr`, which lies in the new area.
+// The header of a section of `size` bytes at the address `addr`, which is in the new area.
 fn area_section(
     name: u32,
     flags: u64,
@@ -95,7 +95,7 @@ fn area_section(
     })
 }
 
-/// Adds the headers of the sections in the new area: the code, and the unwind table and its index where there are any.
+/// Adds the headers of the sections in the new area: the code, and the unwind table and its index if there are any.
 pub fn area_headers(
     headers: &mut Vec<SectionHeader>,
     area: &Area,
@@ -136,7 +136,7 @@ impl<'a> NewContents<'a> {
         }
     }
 
-    // The bytes that are written behind the loaded ones for `section`, whose contents are at `contents`.
+    // The bytes that are written after the loaded ones for `section`, whose contents are at `contents`.
     fn written(&self, file: &'a [u8], contents: Contents, section: &Section) -> &'a [u8]
         ensures { result.now ≡ written_bytes self.now file.now contents section.now }
     {
@@ -191,7 +191,7 @@ fn no_section(name: u32, flags: u64) -> SectionHeader
     }
 }
 
-/// Sets what a section's header says of its contents. Offsets and sizes of those that are written behind the loaded
+/// Sets what a section's header says of its contents. Offsets and sizes of those that are written after the loaded
 /// bytes are set where they are written.
 pub fn set_contents(
     header: &mut SectionHeader,
@@ -272,7 +272,7 @@ pub fn check_end<'a>(
     Ok(())
 }
 
-/// Writes the contents of sections behind the loaded bytes, in the order `order`, and sets the offsets and sizes in
+/// Writes the contents of sections after the loaded bytes, in the order `order`, and sets the offsets and sizes in
 /// their headers.
 pub fn place_contents<'a>(
     elf: &Elf<'a>,

@@ -27,7 +27,7 @@ pub struct Layout {
     pub code: usize,
     pub area: Area,
     pub shift: Shift,
-    /// Where the input's bytes stand beside the area.
+    /// Where the input's bytes are beside the area.
     pub parts: Parts,
     /// The bytes of the area from its new code on.
     pub bytes: Vec<u8>,
@@ -81,8 +81,8 @@ impl Layout {
     }
 }
 
-/// Whether the new code of a map has a segment of its own. Elsewhere it starts behind the executable segment, so a byte
-/// of it stands at that address.
+/// Whether the new code of a map has a segment of its own. Elsewhere it starts after the executable segment, so a byte
+/// of it is at that address.
 pub fn is_above(elf: &Elf, map: &AddrMap) -> Result<bool, Unwritable>
     ensures { IfOk result (λ above. above ≡ is_none (owner map.now (area_start elf.now.segments.items))) }
 {

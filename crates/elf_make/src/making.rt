@@ -33,8 +33,8 @@ use rb_bytes::fault::NoMemory;
 use rv_code::Emitted;
 use std::alloc::Global;
 
-// The bytes of the file: its parts one behind another, and put over them the code cells, the table of program headers
-// and the fields of the ELF header. `Layout` where one of these doesn't lie in the file.
+// The bytes of the file: its parts one after another, and put over them the code cells, the table of program headers
+// and the fields of the ELF header. `Layout` if one of these isn't in the file.
 fn put_together(
     alloc: Global,
     elf: &Elf,
@@ -85,7 +85,7 @@ fn places_of(alloc: Global, headers: &[SectionHeader]) -> Result<Vec<u64>, NoMem
     Ok(places)
 }
 
-// What the ELF header says. `Layout` where the entry point is no instruction of the map.
+// What the ELF header says. `Layout` if the entry point is no instruction of the map.
 fn fields_of(
     elf: &Elf,
     map: &AddrMap,

@@ -23,7 +23,7 @@ impl NameTable {
     }
 
     /// Adds the name that is `front` and `back` joined, and gives its offset in the table. An empty table gets a zero
-    /// byte first, since the offset 0 is that of the empty name. `TooLarge` where that passes 32 bits.
+    /// byte first, since the offset 0 is that of the empty name. `TooLarge` if that passes 32 bits.
     pub fn add(&mut self, front: &[u8], back: &[u8]) -> Result<u32, Unwritable>
         ensures place { IfOk result (λ at. at ≡ length (spec.begun self.old.bytes.items)) }
         ensures bytes { IfOk result (λ at.
@@ -42,7 +42,7 @@ impl NameTable {
         Ok(index as u32)
     }
 
-    /// The bytes of the table: those that it began with, and behind them each name that was added, with its zero byte.
+    /// The bytes of the table: those that it began with, and after them each name that was added, with its zero byte.
     pub fn bytes(&self) -> &[u8]
         ensures { result.now ≡ self.now.bytes.items }
     {

@@ -1,4 +1,4 @@
-// The sections of a written file: their contents behind its loaded bytes, and their headers behind those.
+// The sections of a written file: their contents after its loaded bytes, and their headers after those.
 ghost use Rattle.std.specs.Prelude.{◌≡◌, ◌≢◌, ◌<◌, ◌≤◌, ◌+◌, ◌*◌, ℕ, List, All, AllPairs, IfOk, OnOk, length};
 ghost use Rattle.std.specs.Prelude.{slice_index_or};
 ghost use Rattle.elf_image.specs.declared.section.Section.{Section};
@@ -39,7 +39,7 @@ const MOST_COPIES: u64 = 16;
 /// The sections of a written file.
 #[derive(Drop)]
 pub struct NewSections {
-    /// The headers of all sections: those of the input, and behind them the added ones.
+    /// The headers of all sections: those of the input, and after them the added ones.
     pub headers: Vec<SectionHeader>,
     /// The index of the section with the names of sections.
     pub names: usize,
@@ -123,7 +123,7 @@ fn added_headers(
     Ok(())
 }
 
-// The symbols of cold parts, with their names added to the table of symbol names; none where symbols have no names.
+// The symbols of cold parts, with their names added to the table of symbol names; none if symbols have no names.
 fn added_symbols(
     alloc: Global,
     source: &SectionSource,
@@ -142,8 +142,8 @@ fn added_symbols(
     }
 }
 
-// The bytes of the new symbol table; no bytes where there is none. Where symbols are added its header's `sh_info`
-// counts them too: they are local, and stand behind the local ones. `text` is the index of the new code's section.
+// The bytes of the new symbol table; no bytes if there is none. Where symbols are added its header's `sh_info` counts
+// them too: they are local, and are after the local ones. `text` is the index of the new code's section.
 fn new_symbols(
     alloc: Global,
     source: &SectionSource,
@@ -318,7 +318,7 @@ fn cap_offsets(headers: &mut [SectionHeader], end: u64)
     }
 }
 
-// Where a table of `count` section headers ends that stands at `place`.
+// Where a table of `count` section headers ends that is at `place`.
 fn table_end(place: u64, count: usize) -> Result<u64, Unwritable>
     ensures { IfOk result (λ end. end ≡ place + SHDR_SIZE * count) }
 {

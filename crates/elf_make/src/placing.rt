@@ -1,4 +1,4 @@
-// How a written file is put together: where its parts lie, and where its table of program headers stands.
+// How a written file is put together: the places of its parts and of its table of program headers.
 ghost use Rattle.std.specs.Prelude.{◌≡◌, ◌≤◌, ◌+◌, IfOk, All, IsTrue, ◌↔◌, true, false, [], length};
 ghost use Rattle.elf_parts.specs.Parts.{PartsFit};
 ghost use Rattle.elf_parts.specs.Numbers.{CanPut};
@@ -15,7 +15,7 @@ use elf_plan::header_table::is_kept_table;
 use elf_plan::round::sum;
 use elf_plan::unwritable::Unwritable;
 
-// The parts of a file whose new area has a segment of its own, behind all loaded bytes: these keep their offsets.
+// The parts of a file whose new area has a segment of its own, after all loaded bytes: these keep their offsets.
 fn tight_parts(segments: &[Segment], area: &Area) -> Result<Parts, Unwritable>
     ensures { IfOk result (λ parts. spec.IsAbove segments.now area.now parts) }
 {
@@ -29,7 +29,7 @@ fn tight_parts(segments: &[Segment], area: &Area) -> Result<Parts, Unwritable>
     })
 }
 
-// The parts of a file whose new area lies behind the executable segment: the loaded bytes behind that move.
+// The parts of a file whose new area is after the executable segment: the loaded bytes after that move.
 fn parts_behind(segments: &[Segment], area: &Area, shift: &Shift) -> Result<Parts, Unwritable>
     ensures { IfOk result (λ parts. spec.IsBehind segments.now area.now shift.now parts) }
 {
@@ -53,8 +53,8 @@ fn parts_behind(segments: &[Segment], area: &Area, shift: &Shift) -> Result<Part
     }
 }
 
-// Whether the parts lie apart, and within an input of `input` bytes. `area` is the size of the area, which doesn't
-// stand in the ELF header.
+// Whether the parts are apart, and within an input of `input` bytes. `area` is the size of the area, which isn't in the
+// ELF header.
 fn can_stand(parts: &Parts, input: usize, area: usize) -> bool
     ensures { IsTrue result ↔ (PartsFit parts.now input area × (64 ≤ parts.now.keep)) }
 {
@@ -66,8 +66,8 @@ fn can_stand(parts: &Parts, input: usize, area: usize) -> bool
         && parts.high <= input
 }
 
-/// How the loaded bytes of an input of `input` bytes lie beside `area`, which has `bytes` bytes. `Layout` where they
-/// can't, as where the area would stand on the ELF header.
+/// How the loaded bytes of an input of `input` bytes are beside `area`, which has `bytes` bytes. `Layout` if they
+/// can't, as where the area would be on the ELF header.
 pub fn parts_of(
     segments: &[Segment],
     area: &Area,
@@ -92,8 +92,8 @@ pub fn parts_of(
     Ok(parts)
 }
 
-/// The offset of the table of program headers: at the front of the area's own segment; else where it went with the
-/// bytes beside it; else in `tail`, to which zeros are added for it. It isn't in the ELF header.
+/// The offset of the table of program headers: at the front of the area's own segment; otherwise where it went with the
+/// bytes beside it; otherwise in `tail`, to which zeros are added for it. It isn't in the ELF header.
 pub fn table_place(
     elf: &Elf,
     area: &Area,
@@ -122,7 +122,7 @@ pub fn table_place(
     Ok(place)
 }
 
-// Whether a number is 1, 2, 4 or 8 bytes wide, fits these, and lies within the first `size` bytes.
+// Whether a number is 1, 2, 4 or 8 bytes wide, fits these, and is within the first `size` bytes.
 fn can_put(size: usize, n: &NumberAt) -> bool
     ensures { IsTrue result ↔ CanPut size n.now }
 {

@@ -40,7 +40,7 @@ impl<'a> NewCode<'a> {
         }
     }
 
-    // `symbol` as it stands in the written file: with the new place of the instruction that it names, if it names one.
+    // `symbol` as it is in the written file: with the new place of the instruction that it names, if it names one.
     // `name` is the offset of its name, which doesn't change.
     fn entry_of(&self, symbol: &Symbol, name: u32) -> SymbolEntry
         requires { AreLaidOut self.now.funcs.now }
@@ -103,8 +103,8 @@ pub fn cold_symbols(
     Ok(entries)
 }
 
-/// The bytes of the symbol table: the input's symbols, with those of cold parts behind its local ones, and what stands
-/// behind its last whole symbol. gABI, "Symbol Table": local symbols come first, and `sh_info` counts them.
+/// The bytes of the symbol table: the input's symbols, with those of cold parts after its local ones, and what is after
+/// its last whole symbol. gABI, "Symbol Table": local symbols come first, and `sh_info` counts them.
 pub fn symbol_table(
     alloc: Global,
     elf: &Elf,
@@ -134,7 +134,7 @@ pub fn symbol_table(
     Ok(bytes)
 }
 
-/// How many symbols stand before those that are added: the local ones, by the `sh_info` of the table's header.
+/// How many symbols are before those that are added: the local ones, by the `sh_info` of the table's header.
 pub fn local_count(elf: &Elf, section: &Section) -> usize {
     elf.symbols.len().min(section.info as usize)
 }

@@ -1,4 +1,4 @@
-// What stands in a written file behind all that it loads.
+// What is in a written file after all that it loads.
 ghost use Rattle.std.specs.Prelude.{◌≡◌, ◌+◌, IfOk, length};
 
 use elf_parts::patch::fill_to;
@@ -9,7 +9,7 @@ use std::alloc::Global;
 /// The most bytes of a written file: a GiB.
 pub const OUTPUT_LIMIT: u64 = 1 << 30;
 
-/// `end`, or `TooLarge` where no file may have as many bytes.
+/// `end`, or `TooLarge` if no file may have as many bytes.
 pub fn limited(end: u64) -> Result<u64, Unwritable>
     ensures { IfOk result (λ e. e ≡ end) }
 {
@@ -20,7 +20,7 @@ pub fn limited(end: u64) -> Result<u64, Unwritable>
     }
 }
 
-/// Where `size` bytes end that stand at the first multiple of `align` at or behind `end`. An alignment of 0 means none.
+/// Where `size` bytes end that are at the first multiple of `align` at or after `end`. An alignment of 0 means none.
 pub fn end_behind(end: u64, align: u64, size: usize) -> Result<u64, Unwritable> {
     let start = checked_rounded_up(align.max(1), end)?;
     limited(sum(start, size as u64)?)
@@ -57,7 +57,7 @@ impl Tail {
         sum(self.base, self.bytes.len() as u64)
     }
 
-    /// Adds zeros up to a multiple of `align`, where 0 means none, and gives the offset at which the file ends then.
+    /// Adds zeros up to a multiple of `align` (0 means none), and gives the offset at which the file ends then.
     pub fn align_to(&mut self, align: u64) -> Result<u64, Unwritable>
         ensures base { self.new.base ≡ self.old.base }
         ensures behind { IfOk result (λ place. self.old.base ≤ place) }

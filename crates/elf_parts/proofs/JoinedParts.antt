@@ -1,4 +1,4 @@
--- The parts of a written file stand.
+-- The parts are in the written file.
 use Rattle.std.proofs.Common.{◌≡◌, ◌∙◌, ap, subst, ℕ, ◌+◌, ◌-◌, ◌≤◌, ◌<◌, List, ◌++◌, take, drop, length, get_or}
 use Rattle.std.proofs.Common.{arith, length-append, replicate}
 use Rattle.std.proofs.lemmas.Grind.{common_steps}
@@ -43,7 +43,7 @@ has_parts parts input area zeros more can first second =
           ∙ ap (λ (n : ℕ). parts.behind_at + n) rest_size;
     }
 
--- bytes of the front, and behind the area
+-- bytes of the front, and after the area
 pub front-byte : (parts : Parts) (input area base : List ℕ) (k : ℕ) → HasParts parts input area base → parts.keep ≤ length input →
     k < parts.keep → get_or base k 0 ≡ get_or input k 0
 front-byte parts input area base k has keep below =

@@ -1,4 +1,4 @@
--- What a file has after bytes were put over some of its own, or added behind them.
+-- What a file has after bytes were put over some of its own, or added after them.
 use Rattle.std.proofs.Common.{◌≡◌, ◌∙◌, sym, ap, subst, refl, ℕ, zero, suc, ◌+◌, ◌-◌, ◌≤◌, ◌<◌, ◌⊎◌, inl, inr, List, [], ◌∷◌}
 use Rattle.std.proofs.Common.{◌++◌, length, take, drop, get_or, arith}
 use Rattle.std.specs.Prelude.{All, AllPairs}
@@ -41,7 +41,7 @@ stands-put a bytes xs within = record {
   same = λ j below. get_or-put_there a bytes xs j within below;
 }
 
--- other bytes still stand
+-- other bytes are still there
 pub stands-put_beside : (a : ℕ) (bytes xs : List ℕ) (o : ℕ) (ys : List ℕ) → a + length bytes ≤ length xs →
     (a + length bytes ≤ o) ⊎ (o + length ys ≤ a) → Stands xs o ys → Stands (put a bytes xs) o ys
 stands-put_beside a bytes xs o ys within apart stands = record {
@@ -75,7 +75,7 @@ get_or-put_all (p ∷ ps) xs k within beside =
     get_or-put_all ps (put p.offset p.bytes xs) k rest (λ j d below. beside (suc j) d (omega arith))
     ∙ get_or-put_beside p.offset p.bytes xs k here (beside 0 p (omega arith))
 
--- bytes from which all patches are apart still stand
+-- bytes from which all patches are apart are still there
 pub stands-put_all : (ps : List Patch) (xs : List ℕ) (o : ℕ) (ys : List ℕ) → All (IsWithin (length xs)) ps →
     All (λ p. (p.offset + length p.bytes ≤ o) ⊎ (o + length ys ≤ p.offset)) ps → Stands xs o ys → Stands (put_all xs ps) o ys
 stands-put_all [] xs o ys within apart stands = stands
@@ -87,7 +87,7 @@ stands-put_all (p ∷ ps) xs o ys within apart stands =
     stands-put_all ps (put p.offset p.bytes xs) o ys rest (λ j d below. apart (suc j) d (omega arith))
     (stands-put_beside p.offset p.bytes xs o ys here (apart 0 p (omega arith)) stands)
 
--- each patch stands, where none shares a byte with another
+-- the bytes of each patch are there, if none shares a byte with another
 pub stands-each : (ps : List Patch) (xs : List ℕ) → All (IsWithin (length xs)) ps → AllPairs AreApart ps →
     All (λ p. Stands (put_all xs ps) p.offset p.bytes) ps
 stands-each [] xs within apart k d below = absurd (omega arith)
@@ -111,7 +111,7 @@ stands-each (p ∷ ps) xs within apart (suc k) d below =
     stands-each ps (put p.offset p.bytes xs) rest
     (λ i j e first second. apart (suc i) (suc j) e (omega arith) (omega arith)) k d (omega arith)
 
--- Added behind.
+-- Added after.
 
 pub stands-front : (xs ys : List ℕ) (o : ℕ) (bytes : List ℕ) → Stands xs o bytes → Stands (xs ++ ys) o bytes
 stands-front xs ys o bytes stands =
@@ -134,7 +134,7 @@ stands-behind xs bytes =
     place : (j : ℕ) → (length xs + j) - length xs ≡ j
     place j = omega arith
 
--- bytes of what is added stand behind the rest
+-- bytes of what is added are after the rest
 pub stands-added : (xs ys : List ℕ) (o : ℕ) (bytes : List ℕ) → Stands ys o bytes → Stands (xs ++ ys) (length xs + o) bytes
 stands-added xs ys o bytes stands =
     let size : length (xs ++ ys) ≡ length xs + length ys = grind (arith, common_steps) in

@@ -1,4 +1,4 @@
--- Headers that stand in a file as bytes are read back.
+-- Headers that are in a file as bytes are read back.
 use Rattle.std.proofs.Common.{◌≡◌, ◌∙◌, sym, ap, subst, refl, ℕ, zero, suc, ◌+◌, ◌*◌, ◌-◌, ◌≤◌, ◌<◌, ◌^◌, List, [], ◌∷◌, ◌++◌}
 use Rattle.std.proofs.Common.{length, take, drop, get_or, arith, length-append}
 use Rattle.std.specs.Prelude.{All}
@@ -17,7 +17,7 @@ use Rattle.elf_parts.specs.Spellings.{link_numbers}
 use Rattle.elf_parts.specs.Spellings.{segment_table, section_table}
 use Rattle.elf_parts.proofs.Patches.{number_at-stands}
 
--- Bytes that stand, in parts.
+-- Bytes that are in a file, in parts.
 
 pub stands-first : (file : List ℕ) (o : ℕ) (xs ys : List ℕ) → Stands file o (xs ++ ys) → Stands file o xs
 stands-first file o xs ys stands =
@@ -76,7 +76,7 @@ length-spelled_none = refl
 pub length-segment_bytes : (p : Segment) → length (segment_bytes p) ≡ 56
 length-segment_bytes p = simp (length-spelled_more, length-spelled_none)
 
--- a number that stands in a file, by its place among the spelled ones
+-- a number that is in a file, by its place among the spelled ones
 field : (file : List ℕ) (o : ℕ) (bytes : List ℕ) (size q i n v : ℕ) → Stands file o bytes → length bytes ≡ size → i + n ≤ size →
     q ≡ o + i → number_at bytes i n ≡ v → number_at file q n ≡ v
 field file o bytes size q i n v stands long inside place is =
@@ -107,7 +107,7 @@ segment_at-stands file o p fits stands = λ i. record {
     at : (q i n v : ℕ) → i + n ≤ 56 → q ≡ o + i → number_at (segment_bytes p) i n ≡ v → number_at file q n ≡ v
     at q i n v inside place is = field file o (segment_bytes p) 56 q i n v stands (length-segment_bytes p) inside place is
 
--- a table of program headers that stands in a file
+-- a table of program headers that is in a file
 pub segments_from-stands : (ps : List Segment) (file : List ℕ) (o : ℕ) → All SegmentFits ps → Stands file o (segment_table ps) →
     segments_from file o (length ps) ≡ ps
 unfolding segment_table segments_from

@@ -1,4 +1,4 @@
--- Tables of section headers and of symbols that stand in a file are read back.
+-- Tables of section headers and of symbols that are in a file are read back.
 use Rattle.std.proofs.Common.{◌≡◌, ◌∙◌, ap, subst, refl, ℕ, zero, suc, ◌+◌, ◌*◌, ◌≤◌, ◌<◌, ◌^◌, List, [], ◌∷◌, ◌++◌}
 use Rattle.std.proofs.Common.{length, get_or, arith}
 use Rattle.std.specs.Prelude.{All}
@@ -41,7 +41,7 @@ item-within (n ∷ ns) (suc k) d below =
     let rest = item-within ns k d (omega arith) in
     omega (arith, size, rest)
 
--- where the numbers stand in a file
+-- where the numbers are in a file
 pub number_at-spelled : (ns : List Number) (file : List ℕ) (o k : ℕ) (d : Number) → k < length ns →
     (get_or ns k d).value < 256 ^ (get_or ns k d).width → Stands file o (spelled ns) →
     number_at file (o + before ns k) (get_or ns k d).width ≡ (get_or ns k d).value
@@ -96,7 +96,7 @@ section_header_at-stands file o s fits stands = λ i. record {
         ≡ (get_or (section_numbers s) k (number 0 0)).value
     at k below fit = number_at-spelled (section_numbers s) file o k (number 0 0) below fit stands
 
--- a table of section headers that stands in a file
+-- a table of section headers that is in a file
 pub section_header-stands : (ss : List SectionHeader) (file : List ℕ) (o i : ℕ) (d : SectionHeader) → i < length ss →
     All SectionFits ss → Stands file o (section_table ss) → section_header_at file (o + SHDR_SIZE * i) ≡ get_or ss i d
 unfolding section_table

@@ -1,4 +1,4 @@
--- A written file: the parts, a tail behind them, and what is put over their bytes.
+-- A written file: the parts, a tail after them, and what is put over their bytes.
 use Rattle.std.specs.Prelude.{◌≡◌, ℕ, ◌^◌, ◌<◌, List, Contains, All, ◌++◌, ◌∷◌, length, map}
 use Rattle.byteorder.specs.Endian.{little_bytes}
 use Rattle.elf_image.specs.declared.segment.Segment.{Segment}
@@ -21,7 +21,7 @@ pub record IsAssembled (parts : Parts) (input area tail : List ℕ) (cells : Lis
   pub joined : HasParts parts input area base
   pub is : written ≡ put_all (put_all (base ++ tail) (map patch_of cells)) (header_patches table_at table fields)
 
--- a patch puts a number of so many bytes
+-- a patch puts a number in `width` bytes
 abbrev pub PutsNumber : List Patch → ℕ → ℕ → ℕ → Type 0
 PutsNumber patches offset width value = Contains patches (record { offset = offset; bytes = little_bytes width value })
 

@@ -7,7 +7,7 @@ use Rattle.elf_parts.specs.Patches.{Patch}
 abbrev pub patch_of : NumberAt → Patch
 patch_of n = record { offset = n.offset; bytes = little_bytes n.width n.value }
 
--- a number has a width of 1, 2, 4 or 8 bytes, fits it, and lies within so many bytes
+-- a number has a width of 1, 2, 4 or 8 bytes, fits it, and is within that many bytes
 pub record CanPut (size : ℕ) (n : NumberAt) : Type 0 where
   pub width : (n.width ≡ 1) ⊎ ((n.width ≡ 2) ⊎ ((n.width ≡ 4) ⊎ (n.width ≡ 8)))
   pub fits : n.value < 256 ^ n.width

@@ -1,10 +1,10 @@
--- A written file before its tail and its patches: the front of the input, the new area, and the loaded bytes behind the
+-- A written file before its tail and its patches: the front of the input, the new area, and the loaded bytes after the
 -- executable segment.
 use Rattle.std.specs.Prelude.{◌≡◌, ℕ, ◌+◌, ◌-◌, ◌≤◌, List, take, drop, length}
 use Rattle.elf_parts.specs.declared.parts.Parts.{Parts}
 use Rattle.elf_parts.specs.Patches.{Stands}
 
--- the parts lie apart in the written file, and come from the input
+-- the parts are apart in the written file, and come from the input
 pub record PartsFit (parts : Parts) (input_size area_size : ℕ) : Type 0 where
   pub front : parts.keep ≤ input_size
   pub apart : parts.keep ≤ parts.area_at

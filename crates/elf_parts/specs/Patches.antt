@@ -1,4 +1,4 @@
--- Bytes of a file after others were put over some of them, and bytes that stand in a file.
+-- Bytes of a file after others were put over some of them, and bytes that are in a file.
 use Rattle.std.specs.Prelude.{◌≡◌, ◌⊎◌, ℕ, ◌+◌, ◌-◌, ◌<◌, ◌≤◌, List, ◌++◌, take, drop, length, slice_index, fold}
 
 -- the bytes from an offset on are these, and all others as they were
@@ -27,7 +27,7 @@ AreApart p q = (p.offset + length p.bytes ≤ q.offset) ⊎ (q.offset + length q
 abbrev pub IsWithin : ℕ → Patch → Type 0
 IsWithin size p = p.offset + length p.bytes ≤ size
 
--- the bytes stand in the file at an offset
+-- the bytes are in the file at an offset
 pub record Stands (file : List ℕ) (offset : ℕ) (bytes : List ℕ) : Type 0 where
   pub within : offset + length bytes ≤ length file
   pub same : (j : ℕ) → j < length bytes → slice_index file (offset + j) ≡ slice_index bytes j

@@ -5,7 +5,7 @@ use Rattle.elf_image.specs.declared.segment.Segment.{Segment}
 use Rattle.elf_image.specs.declared.section.SectionHeader.{SectionHeader}
 use Rattle.elf_parts.specs.declared.spell.SymbolEntry.{SymbolEntry}
 
--- a number in so many bytes
+-- a number in that many bytes
 pub record Number : Type 0 where
   pub width : ℕ
   pub value : ℕ

@@ -30,7 +30,7 @@ fn put_patches(
     put_numbers(file, fields);
 }
 
-/// A file of the parts of `input` and the new `area`, with `tail` behind them. Over its bytes are put the code `cells`,
+/// A file of the parts of `input` and the new `area`, with `tail` after them. Over its bytes are put the code `cells`,
 /// then the `table` of program headers at `table_at`, then `fields` of the file's header, so that later ones win.
 pub fn assemble(
     alloc: Global,

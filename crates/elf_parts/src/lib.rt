@@ -1,5 +1,5 @@
 //! The parts of an ELF file that is written: its headers as bytes, what is put over the input's bytes, and what is
-//! added behind them.
+//! added after them.
 #![tactic(auto)]
 
 mod assembly;

@@ -6,7 +6,7 @@ ghost use Rattle.elf_parts.specs.Numbers.{CanPut, patch_of};
 
 use crate::patch::put_bytes;
 
-/// A number, and where in a file it is to stand.
+/// A number, and where in a file it is to be.
 #[derive(Clone, Copy)]
 pub struct NumberAt {
     pub offset: u64,

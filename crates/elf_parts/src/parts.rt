@@ -1,4 +1,4 @@
-// The parts of a written file before its tail: the front of the input, the new area, and loaded bytes behind it.
+// The parts of a written file before its tail: the front of the input, the new area, and loaded bytes after it.
 ghost use Rattle.std.specs.Prelude.{IfOk, length};
 ghost use Rattle.elf_parts.specs.Parts.{PartsFit, HasParts};
 
@@ -6,15 +6,15 @@ use crate::patch::fill_to;
 use rb_bytes::fault::NoMemory;
 use std::alloc::Global;
 
-/// How the parts lie, by offsets in bytes: `keep`, `low` and `high` in the input, `area_at` and `behind_at` in the
-/// written file.
+/// The places of the parts, by offsets in bytes: `keep`, `low` and `high` in the input, `area_at` and `behind_at` in
+/// the written file.
 #[derive(Clone, Copy)]
 pub struct Parts {
     /// The bytes of the input below this keep their offsets.
     pub keep: usize,
-    /// Where the new area stands, behind these bytes.
+    /// The offset of the new area, after these bytes.
     pub area_at: usize,
-    /// The bytes of the input from `low` to before `high` stand at `behind_at`.
+    /// The bytes of the input from `low` to before `high` are at `behind_at`.
     pub low: usize,
     pub high: usize,
     pub behind_at: usize,

@@ -1,4 +1,4 @@
-// Bytes put over those of a file, and zeros added behind them.
+// Bytes put over those of a file, and zeros added after them.
 ghost use Rattle.std.specs.Prelude.{◌≡◌, ◌≤◌, ◌<◌, ◌+◌, ◌-◌, ◌++◌, length, OnOk, IfOk, replicate};
 ghost use Rattle.elf_image.specs.memory.Break.{rounded_up};
 ghost use Rattle.elf_parts.specs.Patches.{put};

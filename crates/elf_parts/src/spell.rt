@@ -51,7 +51,7 @@ pub fn put_segments(out: &mut Vec<u8>, segments: &[Segment]) -> Result<(), NoMem
     Ok(())
 }
 
-// Appends what a section header says behind its section's size.
+// Appends what a section header says after its section's size.
 fn put_links(out: &mut Vec<u8>, s: &SectionHeader) -> Result<(), NoMemory>
     ensures bytes { OnOk result (out.new.items ≡ out.old.items ++ spec.spelled (spec.link_numbers s.now)) }
     ensures fits { OnOk result (spec.LinksFit s.now) }

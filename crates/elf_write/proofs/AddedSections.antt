@@ -21,7 +21,7 @@ use Rattle.elf_plan.specs.NewSections.{AreNewSections, IsAdded, IsInArea, adds_r
 use Rattle.elf_write.specs.TablePlaces.{Holds}
 use Rattle.elf_write.proofs.GivenTables.{found_first, same_at, same_bytes}
 
--- the name of one of them: the unwind table where the area has it, and ranges where they are added, which come last
+-- the name of one of them: the unwind table if the area has it, and ranges where they are added, which come last
 pub data AddedName (adds : Bool) (frames : Option ℕ) (IsLast : Type 0) (name : List ℕ) : Type 0 where
   is_text : name ≡ codes ".text" → AddedName adds frames IsLast name
   is_frames : (a : ℕ) → frames ≡ Some a → name ≡ codes ".eh_frame" → AddedName adds frames IsLast name
@@ -75,7 +75,7 @@ module _ {Y Z : Type 0} (elf new : Elf) (tables : List (String Y × Vec ℕ Z)) 
   at_is : (j k : ℕ) (z : Section) → j ≡ k → slice_get new.sections.items j ≡ Some z → slice_get new.sections.items k ≡ Some z
   at_is j k z e at = subst (λ (x : ℕ). slice_get new.sections.items x ≡ Some z) e at
 
-  -- each section behind those of the input is one of the four
+  -- each section after those of the input is one of the four
   pub added : (k : ℕ) (z : Section) → n ≤ k → slice_get new.sections.items k ≡ Some z → IsNamed k z
   added k z past at = elim (cases_order k n) [
     | inl same ↦ text_at k z (at_is k n z same at)

@@ -158,7 +158,7 @@ module _ {Y Z : Type 0} (elf new : Elf) (tables : List (String Y × Vec ℕ Z)) 
           holds_at new (codes ".eh_frame_hdr") (bytes_called tables (codes ".eh_frame_hdr")) b m found
           (record { addr = is.added.header.addr_is; contents = is.added.contents })
 
-  -- where none is added, there is none
+  -- if none is added, there is none
   pub no_frames_stand : area.frames ≡ None → section_called new.sections.items (codes ".eh_frame") ≡ None
   no_frames_stand none =
       find-none (is_called (codes ".eh_frame")) new.sections.items

@@ -240,7 +240,7 @@ module _ {Y Z : Type 0} (elf new : Elf) (tables : List (String Y × Vec ℕ Z)) 
           let inside = slice_get_within elf.sections.items i s at in
           same_at k x z (slice_get-get_or elf.sections.items k s (omega (arith, less, inside))) there ∙ h.2 k less)
 
-      -- a table has this place where it has the name
+      -- a table has this place if it has the name
       pub same_table : (x : List ℕ) → is_at i (place_replaced elf.sections.items x) ≡ bytes_eq x name
       same_table x = bool_same (is_at i (place_replaced elf.sections.items x)) (bytes_eq x name) (to (names_frames x) refl) from
         where

@@ -1,4 +1,4 @@
--- The tables that are given stand in the written file.
+-- The tables that are given are in the written file.
 use Rattle.std.proofs.Common.{◌≡◌, ℕ, List, Option, Some, None, Bool, true, false, refl, sym, ap, ◌∙◌, subst, arith}
 use Rattle.std.specs.Prelude.{find, if◌then◌else◌, is_none, is_some, slice_get, position, IfSome, IsSomeAnd, IsTrue, String, Vec}
 use Rattle.std.specs.Prelude.{string_bytes, codes}

@@ -1,5 +1,5 @@
--- Where given tables stand in a written file: which sections of the input take one, and what the sections that names
--- mean hold.
+-- Where given tables are in a written file: which sections of the input take one, and what the sections that names mean
+-- hold.
 use Rattle.std.specs.Prelude.{◌≡◌, ◌≢◌, ℕ, ◌==◌, ◌&&◌, ◌||◌, not, false, true, Bool, List, None, IfSome, IsSomeAnd}
 use Rattle.std.specs.Prelude.{IsTrue, All, EachIndex, String, Vec, codes, find, is_some, slice_get, string_bytes}
 use Rattle.std.specs.Option.{option_map_or}
@@ -15,7 +15,7 @@ use Rattle.elf_plan.specs.NewSections.{adds_ranges, bytes_called}
 
 -- Which tables have a place.
 
--- the section at `index` has names or symbols, which are written anew
+-- the section at `index` has names or symbols, which are rewritten
 abbrev pub is_own_section : Elf → ℕ → Bool
 is_own_section elf index =
     (e_shstrndx elf.file.now == index) || (is_at index (place_of_symbols elf) || is_at index (place_of_names elf))
@@ -27,15 +27,14 @@ takes_table elf index s = not (is_own_section elf index) && not (is_left_out s)
 abbrev pub takes_table_at : Elf → ℕ → Bool
 takes_table_at elf index = option_map_or (takes_table elf index) (slice_get elf.sections.items index) false
 
--- The section that a table's name means takes it, if there is one. The unwind table and its index stand in the new
--- area.
+-- The section that a table's name means takes it, if there is one. The unwind table and its index are in the new area.
 abbrev pub has_place : Elf → List ℕ → Bool
 has_place elf name = option_map_or (takes_table_at elf) (place_replaced elf.sections.items name) true
 
 abbrev pub ArePlaced : {Y Z : Type 0} → Elf → List (String Y × Vec ℕ Z) → Type 0
 ArePlaced elf tables = All (λ t. IsTrue (has_place elf (string_bytes t.0))) tables
 
--- A section that the name of a debug table means, but for the table that is always left out.
+-- A section that the name of a debug table means, except for the table that is always left out.
 abbrev pub is_debug_table : Section → Bool
 is_debug_table s =
     names_debug s.name.now && (is_meant_by s.name.now s && not (bytes_eq s.name.now (codes ".debug_macro")))
@@ -69,7 +68,7 @@ abbrev pub is_given : {Y Z : Type 0} → List (String Y × Vec ℕ Z) → List �
 is_given tables name = is_some (find (λ t. bytes_eq (string_bytes t.0) name) tables)
 
 -- The tables of a written file: those in the new area, and those of debug data. Of the latter those that aren't given
--- stay, and one that the input hasn't isn't written, but for that of ranges.
+-- stay, and one that the input hasn't isn't written, except for that of ranges.
 pub record TablesStand {Y Z : Type 0} (elf new : Elf) (tables : List (String Y × Vec ℕ Z)) (area : Area) : Type 0 where
   pub frames : IfSome area.frames (λ a. HoldsAt new (codes ".eh_frame") a (bytes_called tables (codes ".eh_frame")))
   pub no_frames : area.frames ≡ None → section_called new.sections.items (codes ".eh_frame") ≡ None

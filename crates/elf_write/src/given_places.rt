@@ -11,15 +11,14 @@ use elf_plan::name_tables::OwnSections;
 use elf_plan::sections::{DEBUG_MACRO, is_left_out, place_replaced};
 use elf_plan::unwritable::Unwritable;
 
-// Whether the section at `index` has names or symbols, which are written anew.
+// Whether the section at `index` has names or symbols, which are rewritten.
 fn is_own_section(own: OwnSections, index: usize) -> bool
     ensures { result ≡ ((own.section_names == index) || (is_at index own.symbols || is_at index own.symbol_names)) }
 {
     own.section_names == index || own.symbols == Some(index) || own.symbol_names == Some(index)
 }
 
-// Whether a given table can take the place of `section`, which stands at `index`: that is neither written anew nor left
-// out.
+// Whether a given table can take the place of `section`, which is at `index`: that is neither rewritten nor left out.
 fn takes_table(elf: &Elf, own: OwnSections, index: usize, section: &Section) -> bool
     requires { IsOwnOf elf.now own }
     ensures { result ≡ spec.takes_table elf.now index section.now }
@@ -90,7 +89,7 @@ fn keeps_tables(elf: &Elf, own: OwnSections) -> bool
     true
 }
 
-/// Answers `Layout` where a table that is given has no place, or a debug table of the input for which none is given
+/// Answers `Layout` if a table that is given has no place, or a debug table of the input for which none is given
 /// wouldn't stay.
 pub fn check_places(elf: &Elf, tables: &[Table]) -> Result<(), Unwritable>
     ensures placed { OnOk result (spec.ArePlaced elf.now tables.now) }

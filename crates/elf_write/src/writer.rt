@@ -24,7 +24,7 @@ use rb_bytes::fault::NoMemory;
 use rv_code::{Emitted, Func};
 use std::alloc::Global;
 
-// What `write` gives, with the reason where there is no file.
+// What `write` gives, with the reason if there is no file.
 fn written(
     alloc: Global,
     elf: &Elf,
@@ -67,11 +67,11 @@ fn written(
 
 /// The bytes of the written file. `funcs` are the functions of the input, `cold` has the addresses in it of the cold
 /// parts that get a name, `emitted` the new code and the new contents of code cells, and `tables` the contents of
-/// tables that are written anew, by the names of their sections.
+/// tables that are rewritten, by the names of their sections.
 ///
 /// What is written is read back, so no file is ever answered that the reader refuses, or whose sections, program
 /// headers or symbols aren't what they must be. The bytes of the new area alone aren't read again: what they are is
-/// proved where they are made. Where no file can be written, for whichever reason of [`Unwritable`], want of memory is
+/// proved where they are made. Where no file can be written, for whichever reason of [`Unwritable`], out of memory is
 /// answered.
 pub fn write(
     alloc: Global,
@@ -94,7 +94,7 @@ pub fn write(
     ensures tables { IfOk result (λ w. (tight : Bool) →
         HasPlace (source_of elf.now emitted.now map.now tables.now) tight →
         HasNewTables elf.now tables.now emitted.now.code.items funcs.now cold.now map.now tight w.items) }
-    // The tables stand in what is read of the file.
+    // The tables are in what is read of the file.
     ensures stand { IfOk result (λ w. (tight : Bool) →
         (t : HasNewTables elf.now tables.now emitted.now.code.items funcs.now cold.now map.now tight w.items) →
         TablesStand elf.now t.new tables.now (area_for elf.now tables.now emitted.now.code.items tight)) }

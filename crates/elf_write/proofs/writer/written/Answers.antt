@@ -32,7 +32,7 @@ use Rattle.elf_write.proofs.writer.written.Goals as goal
 pub made-requires-clause-readable : goal.made-requires-clause-readable
 made-requires-clause-readable c = readable c.args.elf.now.file.now c.requires.sound
 
--- a plan is one for the place in which its own area stands
+-- a plan is one for the place of its own area
 above_tight : {Y Z : Type 0} (elf : Elf) (tables : List (String Y × Vec ℕ Z)) (code : List ℕ) (tight : Bool) (plan : Plan) →
     IsPlanOf elf tables code tight plan → IsPlanOf elf tables code plan.area.tight plan
 above_tight elf tables code tight plan is =
