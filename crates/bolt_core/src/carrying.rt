@@ -10,6 +10,7 @@ ghost use Rattle.dw_unit.specs.Faults.{HasDwarfFault, unit_fault_places};
 ghost use Rattle.dw_unit.specs.Tables.{sections_of};
 ghost use Rattle.frame_rewrite.specs.Tables.{EhAllows};
 ghost use Rattle.table_set.specs.AllTables.{AllComeFrom, AllFit};
+ghost use Rattle.table_set.specs.WeighedTables.{AreWeighed};
 ghost use Rattle.bolt_core.specs.internal.CarriedTables.{AreNewTables, HasRoomBehind};
 
 use crate::table_list::listed;
@@ -18,7 +19,7 @@ use elf_image::Elf;
 use elf_write::Table;
 use rb_bytes::fault::NoMemory;
 use std::alloc::Global;
-use table_set::{AllTables, carry_all};
+use table_set::{AllTables, Weighed, carry_all};
 
 /// The tables of a file, rewritten for the new code by the map, and the index of its unwind table, by the names of
 /// their sections. The new code has `code` bytes from `start` on. After it there is room for the unwind table and its
@@ -30,6 +31,7 @@ pub fn new_tables(
     map: &AddrMap,
     start: u64,
     code: usize,
+    weighed: Weighed,
 ) -> Result<Vec<Table>, NoMemory>
     requires come { AllComeFrom tables.now elf.now }
     requires ordered { AllPairs IsLineBefore map.now }
@@ -38,11 +40,12 @@ pub fn new_tables(
     requires fit { AllFit tables.now map.now }
     requires sound { IsFree (HasDwarfFault (unit_fault_places (sections_of elf.now))) }
     requires light { abbrev_weight (sections_of elf.now) ≤ weight_limit }
+    requires weighed { AreWeighed tables.now map.now weighed }
     requires stretch { IsStretch map.now start (start + code) }
     requires low { start + code ≤ address_end }
     requires room { HasRoomBehind tables.now.eh map.now (start + code) }
     ensures { IfOk result (λ given. AreNewTables elf.now tables.now map.now start code given.items) }
 {
-    let written = carry_all(alloc, elf, tables, map)?;
+    let written = carry_all(alloc, elf, tables, map, weighed)?;
     listed(alloc, elf, start, code, written)
 }

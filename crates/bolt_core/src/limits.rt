@@ -1,5 +1,5 @@
 // Limits on files that are rewritten.
-ghost use Rattle.std.specs.Prelude.{ℕ, ◌≤◌, ◌^◌, All, AllPairs, IfErr, List, OnOk, length};
+ghost use Rattle.std.specs.Prelude.{ℕ, ◌≤◌, ◌^◌, All, AllPairs, IfErr, IfOk, List, OnOk, length};
 ghost use Rattle.rb_bytes.specs.FirstFault.{IsFree};
 ghost use Rattle.rv_code.specs.layout.FunctionLists.{AreLaidOut};
 ghost use Rattle.rv_code.specs.layout.FunctionMembers.{IsOfFunction};
@@ -11,6 +11,7 @@ ghost use Rattle.dw_unit.specs.Faults.{HasDwarfFault, unit_fault_places};
 ghost use Rattle.dw_unit.specs.Tables.{sections_of};
 ghost use Rattle.table_set.specs.AllTables.{AllComeFrom};
 ghost use Rattle.table_set.specs.TableLimits.{IsTooHeavy};
+ghost use Rattle.table_set.specs.WeighedTables.{AreWeighed};
 ghost use Rattle.area_room.specs.Need.{AreBlocksOf};
 ghost use Rattle.program.specs.Limits.{IsLimitFault};
 ghost use Rattle.program.specs.Program.{program_seen};
@@ -30,7 +31,7 @@ use rb_bytes::fault::{Fault, FaultKind, Refusal};
 use rb_bytes::limit::{FILE_BYTES, HEADERS, PROFILE_BYTES, WEIGHTS};
 use rv_code::Func;
 use std::alloc::Global;
-use table_set::{AllTables, is_too_heavy};
+use table_set::{AllTables, Weighed, weigh_all};
 
 // The limit on section headers, and on program headers. A written file has a few more. Their number has to fit in a
 // field of 16 bits, and for sections to be below SHN_LORESERVE (0xff00).
@@ -106,23 +107,25 @@ pub fn check_sizes(
     Ok(())
 }
 
-/// Refuses a program with a table that would weigh too much when written for `map`, at 6 (`WEIGHTS`).
+/// Refuses a program with a table that would weigh too much when written for `map`, at 6 (`WEIGHTS`). Otherwise gives
+/// what the weights were found from, which is written.
 pub fn check_weight(
     alloc: Global,
     elf: &Elf<'_>,
     tables: &AllTables,
     map: &AddrMap,
-) -> Result<(), Refusal>
+) -> Result<Weighed, Refusal>
     requires comes { AllComeFrom tables.now elf.now }
     requires ordered { AllPairs IsLineBefore map.now }
     requires disjoint { AllPairs ShareNoByte map.now }
     requires low { AreLow map.now }
     requires sound { IsFree (HasDwarfFault (unit_fault_places (sections_of elf.now))) }
     ensures light { OnOk result (IsTooHeavy elf.now map.now → ⊥) }
+    ensures weighed { IfOk result (AreWeighed tables.now map.now) }
     ensures refused { IfErr result (IsRefusalFor (IsHeavy elf.now map.now)) }
 {
-    if is_too_heavy(alloc, elf, tables, map)? {
-        return Err(Refusal::Fault(Fault::at(FaultKind::TooLarge, WEIGHTS)));
+    match weigh_all(alloc, elf, tables, map)? {
+        Some(weighed) => Ok(weighed),
+        None => Err(Refusal::Fault(Fault::at(FaultKind::TooLarge, WEIGHTS))),
     }
-    Ok(())
 }

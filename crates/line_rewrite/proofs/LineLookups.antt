@@ -14,6 +14,7 @@ use Rattle.table_core.specs.DebugUnits.{Walked, walked}
 use Rattle.line_rewrite.specs.declared.found.FoundRows.{FoundRows}
 use Rattle.line_rewrite.specs.declared.kept.Kept.{Kept}
 use Rattle.line_rewrite.specs.declared.kept.KeptSequence.{KeptSequence}
+use Rattle.line_rewrite.specs.declared.near.NearRows.{NearRows}
 use Rattle.line_rewrite.specs.declared.sequence_index.Place.{Place}
 use Rattle.line_rewrite.specs.declared.sequence_index.SequenceIndex.{SequenceIndex}
 use Rattle.line_rewrite.specs.declared.unit.Unit as kept
@@ -24,12 +25,14 @@ use Rattle.line_rewrite.specs.LineUnits.{LineUnit, unit_in}
 use Rattle.line_rewrite.specs.FilePaths.{file_path, path_at}
 use Rattle.line_rewrite.specs.KeptUnits.{told_unit}
 use Rattle.line_rewrite.specs.Keeping.{AreKept, Begins}
-use Rattle.line_rewrite.specs.SequenceIndex.{all_numbered, kept_range, place_of, IsIndexOf, numbered_at, unit_sequence, IsFound, IsSame}
+use Rattle.line_rewrite.specs.SequenceIndex.{Numbered, all_numbered, kept_range, place_of, IsIndexOf, numbered_at, unit_sequence, IsFound, IsSame}
 use Rattle.line_rewrite.specs.SequenceViews.{kept_at}
 use Rattle.line_rewrite.specs.Tables.{LineSections, line_at}
 use Rattle.line_rewrite.specs.UnitLists.{place_range, AreLines}
-use Rattle.line_rewrite.specs.Walks.{Ascends}
+use Rattle.line_rewrite.specs.NearRows.{AreEnough, AreNear, Reaches}
+use Rattle.line_rewrite.specs.Walks.{Ascends, none_between}
 use Rattle.line_rewrite.proofs.Ascending.{Follow, AllFollow, sequences_follow, follow_ascends}
+use Rattle.line_rewrite.proofs.Between.{rows_alike}
 use Rattle.line_rewrite.proofs.FirstSequence.{IsUnitKept, numbered_said, said_found, Stands, found_stands}
 use Rattle.line_rewrite.proofs.LineFaults.{units_are, there_at}
 
@@ -74,10 +77,10 @@ none_of : {X Y : Type 0} (f : X → Y) (o : Option X) → option_map f o ≡ Non
 none_of f None e = refl
 none_of f (Some x) e = absurd (cc)
 
-record Has {X Y : Type 0} (f : X → Y) (o : Option X) (y : Y) : Type 0 where
-  x : X
-  is : o ≡ Some x
-  gives : f x ≡ y
+pub record Has {X Y : Type 0} (f : X → Y) (o : Option X) (y : Y) : Type 0 where
+  pub x : X
+  pub is : o ≡ Some x
+  pub gives : f x ≡ y
 
 some_of : {X Y : Type 0} (f : X → Y) (o : Option X) (y : Y) → option_map f o ≡ Some y → Has f o y
 some_of f None y e = absurd (cc)
@@ -89,7 +92,7 @@ zero_off n = omega arith
 -- The sequence that the index finds
 
 module _ (us : List kept.Unit) (index : SequenceIndex) (is : IsIndexOf us index) (a : ℕ) where
-  abbrev place_at : Option Place
+  abbrev pub place_at : Option Place
   place_at = option_and_then (slice_get index.places.items) (first_range index.first a)
 
   placed : place_at ≡ option_map place_of (numbered_at us a)
@@ -102,7 +105,7 @@ module _ (us : List kept.Unit) (index : SequenceIndex) (is : IsIndexOf us index)
   none_there o e n = none_of place_of (numbered_at us a) (sym placed ∙ sym e ∙ n)
 
   module _ (o : Option Place) (p : Place) (e : o ≡ place_at) (some : o ≡ Some p) where
-    here : Has place_of (numbered_at us a) p
+    pub here : Has place_of (numbered_at us a) p
     here = some_of place_of (numbered_at us a) p (sym placed ∙ sym e ∙ some)
 
     stands : Stands us 0 here.x
@@ -169,7 +172,37 @@ same_there us index is a b o r p q u k oa op rb rq n m at on same =
       rows = (λ i. in_force a (unit_sequence (xu i) (xk i)).rows) ∙ same ∙ (λ i. in_force b (unit_sequence (sym xu i) (sym xk i)).rows);
     }
 
--- Elements of lists, as they are looked up
+-- remembered rows of the sequence that an index finds
+
+module _ (us : List kept.Unit) (index : SequenceIndex) (is : IsIndexOf us index) (near : NearRows) (are : AreNear us near) where
+  module _ (a : ℕ) (o : Option Place) (p : Place) (e : o ≡ place_at us index is a) (some : o ≡ Some p) (reach : Reaches near p a) where
+    abbrev pub first : Numbered
+    first = (here us index is a o p e some).x
+
+    pub near_enough : AreEnough near.low near.high near.rows.items (unit_sequence first.unit first.sequence).rows
+    near_enough =
+        are first.unit first.sequence (ap (slice_get us) reach.unit ∙ unit_here us index is a o p e some)
+        (ap (slice_get first.unit.sequences.items) reach.sequence ∙ sequence_here us index is a o p e some)
+
+    pub found_near : (f : FoundRows) → f.unit ≡ p.unit → f.rows.items ≡ in_force a near.rows.items → IsFound us a f
+    found_near f n rows =
+        found_there us index is a o p e some first.unit (unit_here us index is a o p e some) first.sequence
+        (sequence_here us index is a o p e some) f n (rows ∙ near_enough.same a reach.low reach.high)
+
+  pub same_near : (a b : ℕ) (o r : Option Place) (p q : Place) → o ≡ place_at us index is a → o ≡ Some p → r ≡ place_at us index is b
+      → r ≡ Some q → Reaches near p a → Reaches near q b → a ≤ b → none_between a b near.rows.items ≡ true → IsSame us a b
+  same_near a b o r p q oa op rb rq at_a at_b ordered none =
+      let x = here us index is a o p oa op in
+      let enough = near_enough a o p oa op at_a in
+      same_there us index is a b o r p q x.x.unit x.x.sequence oa op rb rq (sym at_a.unit ∙ at_b.unit) (sym at_a.sequence ∙ at_b.sequence)
+      (unit_here us index is a o p oa op) (sequence_here us index is a o p oa op)
+      (sym (enough.same a at_a.low at_a.high) ∙ rows_alike a b near.rows.items ordered enough.ascend none
+      ∙ enough.same b (to near.low a b at_a.low ordered) at_b.high)
+    where
+      to : (low a b : ℕ) → low ≤ a → a ≤ b → low ≤ b
+      to low a b h k = omega arith
+
+-- items of lists, as they are looked up
 
 below : (i n : ℕ) → true ≡ nat_lt i n → i < n
 below i n t = grind (arith, nat_tests)

@@ -64,7 +64,7 @@ from_below (suc n) from (x ∷ rows) r others up e = let h : x.address ≤ r.add
     from_below n x.address rows r others up.1 e in let i : from ≤ x.address = up.0 in omega arith
 
 -- The rows before a row aren't further on.
-before_below : (n from m : ℕ) (rows : List Registers) (r : Registers) (others : List Registers) → Ascends from rows
+pub before_below : (n from m : ℕ) (rows : List Registers) (r : Registers) (others : List Registers) → Ascends from rows
     → drop n rows ≡ r ∷ others → r.address < m → AllBelow m (take n rows)
 before_below zero from m rows r others up e h = below_nothing m rows
 before_below (suc n) from m [] r others up e h = tt
@@ -78,7 +78,7 @@ kept_reach true x r rows h = grind (arith, nat_tests)
 kept_reach false x r rows h = h
 
 -- A row that is reached.
-row_reached : (n a : ℕ) (rows : List Registers) (r : Registers) (others : List Registers) → drop n rows ≡ r ∷ others → r.address ≤ a
+pub row_reached : (n a : ℕ) (rows : List Registers) (r : Registers) (others : List Registers) → drop n rows ≡ r ∷ others → r.address ≤ a
     → r.address ≤ greatest_address (reached a rows)
 row_reached n a [] r others e h = absurd (cc (drop_none n))
 row_reached zero a (x ∷ rows) r others e h =

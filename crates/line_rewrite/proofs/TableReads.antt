@@ -1,13 +1,12 @@
 -- A line table that is read from a file, and its weight.
 use Rattle.std.proofs.Common.{◌≡◌, ◌+◌, ◌*◌, ℕ, List, [], ◌∷◌, Some, None, refl, sym, ap, subst, length}
-use Rattle.std.specs.Prelude.{sum_by}
 use Rattle.rb_bytes.specs.FirstFault.{IsFree, IsRefusalBy}
 use Rattle.rb_bytes.specs.declared.fault.Refusal.{Refusal}
 use Rattle.elf_image.specs.declared.elf.Elf.{Elf}
 use Rattle.answer_runs.specs.declared.run.Run.{Run}
 use Rattle.answer_runs.specs.AnswerRuns.{said_runs}
 use Rattle.answer_runs.specs.Weights.{run_weight}
-use Rattle.table_core.specs.DebugUnits.{walked}
+use Rattle.table_core.specs.DebugUnits.{units_from, walked}
 use Rattle.line_rewrite.specs.declared.unit.Unit as kept
 use Rattle.line_rewrite.specs.LineAnswers.{LineSaid}
 use Rattle.line_rewrite.specs.Tables.{LineSections, HasLineFault, line_sections, line_version, line_at, line_answers, row_weight}
@@ -29,9 +28,11 @@ read_refused elf s e same r = subst (λ (t : LineSections). IsRefusalBy (HasLine
 abbrev pub weight_in : Run LineSaid → ℕ
 weight_in r = run_weight + row_weight * length r.answer.rows
 
-said_same : (runs : List (Run LineSaid)) → said_runs (λ (a : LineSaid). a) runs ≡ runs
+pub said_same : (runs : List (Run LineSaid)) → said_runs (λ (a : LineSaid). a) runs ≡ runs
 said_same [] = refl
 said_same (r ∷ runs) = ap (λ (l : List (Run LineSaid)). r ∷ l) (said_same runs)
 
-pub said_weight : (runs : List (Run LineSaid)) → sum_by weight_in (said_runs (λ (a : LineSaid). a) runs) ≡ sum_by weight_in runs
-said_weight runs = ap (sum_by weight_in) (said_same runs)
+-- A section without bytes has no answers.
+pub silent : (s : LineSections) → s.line ≡ [] → (a : ℕ) → line_at s a ≡ None
+unfolding units_from
+silent s e a = rw e refl

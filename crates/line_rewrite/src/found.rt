@@ -1,6 +1,6 @@
 // The rows in force at an address.
-ghost use Rattle.std.specs.Prelude.{◌≡◌, ◌≤◌, IfNone, IfOk, IfSome, IsTrue, None};
-ghost use Rattle.line_rewrite.specs.SequenceIndex.{IsIndexOf, AreFound, IsSame};
+ghost use Rattle.std.specs.Prelude.{◌≡◌, IfNone, IfOk, IfSome, None};
+ghost use Rattle.line_rewrite.specs.SequenceIndex.{IsIndexOf, AreFound};
 ghost use Rattle.line_rewrite.specs.SequenceViews.{IsViewAt, kept_at};
 
 use crate::line_program::LineProgram;
@@ -19,7 +19,7 @@ pub struct FoundRows {
 }
 
 // The sequence at a place, if there is one.
-fn view_at(units: &[Unit], place: Place) -> Option<SequenceView<'_>>
+pub(crate) fn view_at(units: &[Unit], place: Place) -> Option<SequenceView<'_>>
     ensures found { IfSome result (IsViewAt units.now place) }
     ensures none { IfNone result (kept_at units.now place ≡ None) }
 {
@@ -57,22 +57,4 @@ pub fn found_rows(
         unit: place.unit,
         rows,
     }))
-}
-
-/// Whether the same rows of one sequence are certainly in force at `a` and at `b`. `false` has no meaning.
-pub fn is_same(units: &[Unit], index: &SequenceIndex, a: u64, b: u64) -> bool
-    requires index { IsIndexOf units.now index.now }
-    requires ordered { a ≤ b }
-    ensures { IsTrue result → IsSame units.now a b }
-{
-    let (Some(place), Some(other)) = (index.find(a), index.find(b)) else {
-        return false;
-    };
-    if place.unit != other.unit || place.sequence != other.sequence {
-        return false;
-    }
-    let Some(view) = view_at(units, place) else {
-        return false;
-    };
-    view.is_same_at(a, b)
 }

@@ -1,5 +1,5 @@
 // The rows in force at an address, from kept states.
-ghost use Rattle.std.specs.Prelude.{◌≡◌, ◌<◌, ◌≤◌, ◌-◌, ℕ, List, length, drop, IfOk, IsTrue, slice_index_or};
+ghost use Rattle.std.specs.Prelude.{◌≡◌, ◌<◌, ◌≤◌, ◌-◌, ◌^◌, ℕ, List, length, drop, IfOk, IfSome, slice_index_or};
 ghost use Rattle.std.specs.List.Sorted.{IsNonDecreasingBy};
 ghost use Rattle.line_rewrite.specs.declared.coding.Coding.{Coding};
 ghost use Rattle.line_rewrite.specs.declared.kept.Kept.{Kept};
@@ -8,11 +8,12 @@ ghost use Rattle.line_rewrite.specs.LineMachine.{in_force};
 ghost use Rattle.line_rewrite.specs.Walks.{Ascends};
 ghost use Rattle.line_rewrite.specs.Keeping.{AreKept, Begins, are_past, row_at};
 ghost use Rattle.line_rewrite.specs.SequenceViews.{HasRows};
+ghost use Rattle.line_rewrite.specs.NearRows.{AreEnough, HasAbove};
 
 use crate::kept::Kept;
 use crate::line_program::LineProgram;
 use crate::registers::Registers;
-use crate::walk::{add_rows, none_between};
+use crate::walk::{add_rows, push_rows};
 use std::alloc::{AllocError, Global};
 
 /// A sequence of a program.
@@ -30,6 +31,8 @@ fn count_up_to(kept: &[Kept], a: u64) -> usize
     ensures bound { result ≤ length kept.now }
     ensures last { IsNonDecreasingBy (λ k. k.address) kept.now → (k : Kept) → 0 < result →
         (slice_index_or kept.now (result - 1) k).address ≤ a }
+    ensures next { IsNonDecreasingBy (λ k. k.address) kept.now → (k : Kept) → result < length kept.now →
+        a < (slice_index_or kept.now result k).address }
 {
     kept.partition_point(|kept| kept.address <= a)
 }
@@ -78,13 +81,27 @@ fn are_past(found: &[Registers], state: &Kept) -> bool
     }
 }
 
-// Whether the row of a state is past address `b`; true also if there is no such state.
-fn is_past(kept: &[Kept], state: usize, b: u64) -> bool
-    ensures { IsTrue result → (k : Kept) → state < length kept.now → b < (slice_index_or kept.now state k).address }
+// The address of the first row above an address, if there is one.
+fn first_above(rows: &[Registers], address: u64) -> Option<u64>
+    ensures { IfSome result (λ low. HasAbove address low rows.now) }
+{
+    for row in rows {
+        if row.address > address {
+            return Some(row.address);
+        }
+    }
+    None
+}
+
+// The last address before the row of a state; 2^64 - 1 if there is no such state.
+fn last_before(kept: &[Kept], state: usize) -> u64
+    ensures some { (k : Kept) → state < length kept.now →
+        result ≡ (slice_index_or kept.now state k).address - 1 }
+    ensures none { length kept.now ≤ state → result ≡ 2 ^ 64 - 1 }
 {
     match kept.get(state) {
-        Some(kept) => kept.address > b,
-        None => true,
+        Some(kept) => kept.address.saturating_sub(1),
+        None => u64::MAX,
     }
 }
 
@@ -132,23 +149,27 @@ impl<'a> SequenceView<'a> {
         Ok(found)
     }
 
-    /// Whether the same rows are certainly in force at `a` and at `b`. `false` has no meaning.
-    pub fn is_same_at(&self, a: u64, b: u64) -> bool
-        requires { a ≤ b }
-        ensures { IsTrue result → (list : List Registers) → HasRows list self.now → in_force a list ≡ in_force b list }
+    /// The rows from the last state that is reached at `a` up to the next state, and the first and the last address for
+    /// which these rows decide which are in force. There may be no such address.
+    pub fn rows_from(&self, alloc: Global, a: u64) -> Result<(Vec<Registers>, u64, u64), AllocError>
+        ensures { IfOk result (λ r. (list : List Registers) → HasRows list self.now →
+            AreEnough r.1 r.2 r.0.items list) }
     {
         let reached = count_up_to(self.kept, a);
         if reached == 0 {
-            return false;
-        }
-        if !is_past(self.kept, reached, b) {
-            return false;
+            return Ok((Vec::new(alloc), 1, 0));
         }
         let state = self.kept[reached - 1];
         if state.place > self.program.bytes.len() {
-            return false;
+            return Ok((Vec::new(alloc), 1, 0));
         }
+        let mut rows = Vec::new(alloc);
         let count = row_at(self.kept, self.rows, reached).saturating_sub(state.index);
-        none_between(&self.program, &state, count, a, b)
+        push_rows(&mut rows, &self.program, &state, count)?;
+        // There may be more rows at the address of the state's row, before it.
+        match first_above(&rows, state.address) {
+            Some(low) => Ok((rows, low, last_before(self.kept, reached))),
+            None => Ok((Vec::new(alloc), 1, 0)),
+        }
     }
 }

@@ -1,7 +1,7 @@
 // Programs walked from a kept state.
-ghost use Rattle.std.specs.Prelude.{◌≡◌, ◌≤◌, ◌∷◌, [], length, take, IfNone, IfOk, IfSome, OnOk};
-ghost use Rattle.line_rewrite.specs.LineMachine.{after_row};
-ghost use Rattle.line_rewrite.specs.Walks.{joined, latest, none_between};
+ghost use Rattle.std.specs.Prelude.{◌≡◌, ◌≤◌, ◌∷◌, ◌++◌, [], length, take, IfNone, IfOk, IfSome, OnOk};
+ghost use Rattle.line_rewrite.specs.LineMachine.{after_row, in_force};
+ghost use Rattle.line_rewrite.specs.Walks.{joined, latest, none_between, Ascends};
 ghost use Rattle.line_rewrite.specs.Keeping.{rows_behind, rows_left};
 
 use crate::effect::Effect;
@@ -11,7 +11,7 @@ use crate::machine::{after_op, after_row, effect_of};
 use crate::reading::read_op;
 use crate::registers::Registers;
 use rb_bytes::cursor::Cursor;
-use std::alloc::AllocError;
+use std::alloc::{AllocError, Global};
 
 // The limit of rows in force at one address: each byte of a program may append one there.
 const MOST_ROWS: usize = 1 << 22;
@@ -86,25 +86,55 @@ pub fn add_rows(
     Ok(())
 }
 
-/// Whether none of `count` rows from a state on is above address `a` and at or below `b`.
-pub fn none_between(program: &LineProgram<'_>, state: &Kept, count: usize, a: u64, b: u64) -> bool
+/// Appends the `count` rows from a state on, or fewer if the sequence ends before.
+pub fn push_rows(
+    rows: &mut Vec<Registers>,
+    program: &LineProgram<'_>,
+    state: &Kept,
+    count: usize,
+) -> Result<(), AllocError>
     requires { state.now.place ≤ length program.now.bytes.now }
-    ensures { result ≡ none_between a b (take count (rows_behind program.now state.now)) }
+    ensures { OnOk result (rows.new.items ≡ rows.old.items ++ take count (rows_behind program.now state.now)) }
 {
     let (_, left) = program.bytes.split_at(state.place);
     let mut cursor = Cursor::new(left);
     let mut present = state.registers;
     for n in 0..count {
         let Some(row) = next_row(program, &mut cursor, present) else {
-            return true;
+            return Ok(());
         };
+        rows.push(row)?;
+        present = after_row(row);
+    }
+    Ok(())
+}
+
+/// The rows that are in force at an address, of rows in order.
+pub fn in_force(alloc: Global, rows: &[Registers], a: u64) -> Result<Vec<Registers>, AllocError>
+    requires { Ascends 0 rows.now }
+    ensures { IfOk result (λ found. found.items ≡ in_force a rows.now) }
+{
+    let mut found = Vec::new(alloc);
+    for row in rows {
+        if row.address > a {
+            return Ok(found);
+        }
+        join(&mut found, *row)?;
+    }
+    Ok(found)
+}
+
+/// Whether no row is above address `a` and at or below `b`.
+pub fn none_between(rows: &[Registers], a: u64, b: u64) -> bool
+    ensures { result ≡ none_between a b rows.now }
+{
+    for row in rows {
         if row.address > b {
             return true;
         }
         if row.address > a {
             return false;
         }
-        present = after_row(row);
     }
     true
 }

@@ -10,7 +10,7 @@ use answer_runs::{RUN_WEIGHT, Run};
 const ROW_WEIGHT: u64 = 96;
 
 /// The weight of the runs, saturated at 2^64 - 1.
-pub fn weight_of(runs: &[Run<LineAt>]) -> u64
+pub fn runs_weight(runs: &[Run<LineAt>]) -> u64
     ensures { result ≡ min (sum_by (λ r. run_weight + row_weight * length r.answer.rows) runs.now) (2 ^ 64 - 1) }
 {
     let mut weight: u64 = 0;

@@ -56,10 +56,10 @@ only_aranges section spans n m x y = only_weight (λ _. 0) (carried (unit_at sec
 abbrev pub IsFound : (ℕ → Type 0) → ℕ → Type 0
 IsFound Weighs found = (weight : ℕ) × Weighs weight × (found ≡ min weight (2 ^ 64 - 1))
 
-found_over : (weight found : ℕ) → found ≡ min weight (2 ^ 64 - 1) → weight_limit < found → weight_limit < weight
+pub found_over : (weight found : ℕ) → found ≡ min weight (2 ^ 64 - 1) → weight_limit < found → weight_limit < weight
 found_over weight found e over = omega (arith, e, over)
 
-found_within : (weight found : ℕ) → found ≡ min weight (2 ^ 64 - 1) → (weight_limit < found → ⊥) → weight_limit < weight → ⊥
+pub found_within : (weight found : ℕ) → found ≡ min weight (2 ^ 64 - 1) → (weight_limit < found → ⊥) → weight_limit < weight → ⊥
 found_within weight found e within over = within (omega (arith, e, over))
 
 -- A weight above the limit.

@@ -1,5 +1,5 @@
 // The weights of tables that would be written.
-ghost use Rattle.std.specs.Prelude.{◌≡◌, AllPairs, IfOk, IsTrue, false};
+ghost use Rattle.std.specs.Prelude.{AllPairs, IfNone, IfOk, IfSome};
 ghost use Rattle.rb_bytes.specs.FirstFault.{IsFree};
 ghost use Rattle.addr_map.specs.MapText.{IsLineBefore};
 ghost use Rattle.addr_map.specs.Spans.{ShareNoByte};
@@ -8,12 +8,14 @@ ghost use Rattle.dw_unit.specs.Faults.{HasDwarfFault, unit_fault_places};
 ghost use Rattle.dw_unit.specs.Tables.{sections_of};
 ghost use Rattle.table_set.specs.AllTables.{AllComeFrom};
 ghost use Rattle.table_set.specs.TableLimits.{IsTooHeavy};
+ghost use Rattle.table_set.specs.WeighedTables.{AreWeighed};
 
 use crate::all::AllTables;
 use addr_map::AddrMap;
-use answer_runs::WEIGHT_LIMIT;
+use answer_runs::{Run, WEIGHT_LIMIT};
 use dw_unit::abbrev_weight;
 use elf_image::Elf;
+use line_rewrite::LineAt;
 use rb_bytes::fault::NoMemory;
 use std::alloc::Global;
 use table_core::AddrTable;
@@ -33,42 +35,56 @@ fn is_much(weight: u64, file_size: u64) -> bool {
             .saturating_add(MOST_BESIDE)
 }
 
-/// Whether a table written for a map, or the declarations of units, would weigh more than `WEIGHT_LIMIT`. Gives
-/// `NoMemory` also if none would, but lists and declarations together weigh too much for the file.
-pub fn is_too_heavy(
+/// What tables were weighed by, and are written from.
+#[derive(Drop)]
+pub struct Weighed {
+    /// The longest runs of line answers at the owners of new bytes.
+    pub lines: Vec<Run<LineAt>>,
+}
+
+/// Weighs the tables that would be written for a map; `None` if one, or the declarations of units, would weigh more
+/// than `WEIGHT_LIMIT`. Gives `NoMemory` also if none would, but lists and declarations together weigh too much for the
+/// file.
+pub fn weigh_all(
     alloc: Global,
     elf: &Elf<'_>,
     tables: &AllTables,
     map: &AddrMap,
-) -> Result<bool, NoMemory>
+) -> Result<Option<Weighed>, NoMemory>
     requires comes { AllComeFrom tables.now elf.now }
     requires ordered { AllPairs IsLineBefore map.now }
     requires disjoint { AllPairs ShareNoByte map.now }
     requires low { AreLow map.now }
     requires sound { IsFree (HasDwarfFault (unit_fault_places (sections_of elf.now))) }
-    ensures heavy { IfOk result (λ heavy. IsTrue heavy → IsTooHeavy elf.now map.now) }
-    ensures light { IfOk result (λ heavy. heavy ≡ false → IsTooHeavy elf.now map.now → ⊥) }
+    ensures heavy { IfOk result (λ o. IfNone o (IsTooHeavy elf.now map.now)) }
+    ensures light { IfOk result (λ o. IfSome o (λ w. IsTooHeavy elf.now map.now → ⊥)) }
+    ensures weighed { IfOk result (λ o. IfSome o (AreWeighed tables.now map.now)) }
 {
-    let lines = tables.lines.weight(alloc, map)?;
-    if lines > WEIGHT_LIMIT {
-        return Ok(true);
-    }
     let ranges = tables.ranges.weight(alloc, map)?;
     if ranges > WEIGHT_LIMIT {
-        return Ok(true);
+        return Ok(None);
     }
     let places = tables.places.weight(alloc, map)?;
     if places > WEIGHT_LIMIT {
-        return Ok(true);
+        return Ok(None);
     }
     let aranges = tables.aranges.weight(alloc, map)?;
     if aranges > WEIGHT_LIMIT {
-        return Ok(true);
+        return Ok(None);
     }
     let abbrevs = abbrev_weight(alloc, elf)?;
+    if abbrevs > WEIGHT_LIMIT {
+        return Ok(None);
+    }
+    // The runs of lines are made last, since they are kept and take the most memory.
+    let lines = tables.lines.carried(alloc, map)?;
+    let rows = tables.lines.weight_of(&lines);
+    if rows > WEIGHT_LIMIT {
+        return Ok(None);
+    }
     let weight = ranges.saturating_add(places).saturating_add(abbrevs);
-    if abbrevs <= WEIGHT_LIMIT && is_much(weight, elf.file.len() as u64) {
+    if is_much(weight, elf.file.len() as u64) {
         return Err(NoMemory);
     }
-    Ok(abbrevs > WEIGHT_LIMIT)
+    Ok(Some(Weighed { lines }))
 }

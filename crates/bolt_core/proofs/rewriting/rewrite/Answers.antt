@@ -295,22 +295,22 @@ check_weight-requires-clause-low c =
     c.in_ok-map.map c.in_ok-map.emitted c.in_ok-map.ensures (c.in_ok-plan.ensures.all c.in_ok-parts.ensures.all)
     c.in_ok-tables.tables c.in_ok-tables.ensures.come
 
-pub returns-in_err-check_weight-clause-refused : goal.returns-in_err-check_weight-clause-refused
-returns-in_err-check_weight-clause-refused c =
-    let at = goal.at.returns-in_err-check_weight-clause-refused c in
+pub returns-in_err-weighed-clause-refused : goal.returns-in_err-weighed-clause-refused
+returns-in_err-weighed-clause-refused c =
+    let at = goal.at.returns-in_err-weighed-clause-refused c in
     let input = given at.After-as_slice-blocks in
     let bytes = all_bytes c.args.file.now c.type_inv.file in
     let stands = standing at.In_ok-start in
     let start_is = starting at.In_ok-start in
     let ordered = in_order at.In_ok-plan (parted at.In_ok-parts input) in
-    let p = err_from_is_err_and c.from_residual-in_err-check_weight.result c.from_residual-in_err-check_weight.ensures.1 in
+    let p = err_from_is_err_and c.from_residual-in_err-weighed.result c.from_residual-in_err-weighed.ensures.1 in
     rw (p.1, p.2) (too_heavy_refusal input stands (pairs_of c.in_ok-counts.counts) c.in_ok-parts.parts c.deref-3.result.now
     (c.deref-3.ensures.value ∙ c.in_ok-cold.ensures) c.in_ok-check_sizes.ensures.within c.in_ok-plan.plan.order.items ordered
     c.in_ok-map.map c.in_ok-map.emitted.code.items
     (laid_out_by c.in_ok-program.program.elf c.as_slice-funcs.result.now c.in_ok-program.program.refs
     c.as_slice-blocks.result.now input bytes stands c.in_ok-start.start start_is c.in_ok-plan.plan.order.items
     c.in_ok-map.map c.in_ok-map.emitted c.in_ok-map.ensures)
-    c.in_err-check_weight.field-0.0 c.in_err-check_weight.ensures.refused)
+    c.in_err-weighed.field-0.0 c.in_err-weighed.ensures.refused)
 
 pub new_tables-requires-clause-allowed : goal.new_tables-requires-clause-allowed
 new_tables-requires-clause-allowed c =
@@ -324,7 +324,7 @@ new_tables-requires-clause-allowed c =
 pub new_tables-requires-clause-fit : goal.new_tables-requires-clause-fit
 new_tables-requires-clause-fit c =
     let at = goal.at.new_tables-requires-clause-fit c in
-    let light : IsTooHeavy c.in_ok-program.program.elf c.in_ok-map.map → ⊥ = c.in_ok-check_weight.ensures.light in
+    let light : IsTooHeavy c.in_ok-program.program.elf c.in_ok-map.map → ⊥ = c.in_ok-weighed.ensures.light in
     record {
       eh = eh_fits c.in_ok-program.program.elf c.as_slice-funcs.result.now c.in_ok-program.program.refs
           c.as_slice-blocks.result.now (given at.After-as_slice-blocks) (all_bytes c.args.file.now c.type_inv.file)
@@ -343,11 +343,14 @@ new_tables-requires-clause-fit c =
           (file_fits c.in_ok-program.ensures.program) c.in_ok-map.map light;
     }
 
+pub new_tables-requires-clause-weighed : goal.new_tables-requires-clause-weighed
+new_tables-requires-clause-weighed c = c.in_ok-weighed.ensures.weighed
+
 pub new_tables-requires-clause-sound : goal.new_tables-requires-clause-sound
 new_tables-requires-clause-sound c = sound_units c.in_ok-program.program.elf c.in_ok-tables.ensures.free
 
 pub new_tables-requires-clause-light : goal.new_tables-requires-clause-light
-new_tables-requires-clause-light c = light_declarations c.in_ok-program.program.elf c.in_ok-map.map c.in_ok-check_weight.ensures.light
+new_tables-requires-clause-light c = light_declarations c.in_ok-program.program.elf c.in_ok-map.map c.in_ok-weighed.ensures.light
 
 pub new_tables-requires-clause-stretch : goal.new_tables-requires-clause-stretch
 new_tables-requires-clause-stretch c =
@@ -436,9 +439,14 @@ returns-clause-rewritten c =
     (subst (λ (cs : List ℕ). (place : ℕ) → IsTooLarge c.in_ok-program.program.elf c.as_slice-funcs.result.now cs place → ⊥)
     (c.deref-3.ensures.value ∙ sym c.deref-4.ensures.value)
     c.in_ok-check_sizes.ensures.within)
-    c.in_ok-check_weight.ensures.light
+    c.in_ok-weighed.ensures.light
     c.in_ok-instructions.instructions c.len-code.result c.count_hot.result c.ignored.result
     c.in_ok-instructions.ensures (c.len-code.ensures ∙ c.in_ok-map.emitted.code.ok.0)
     (hot_counted (pairs_of c.in_ok-counts.counts) c.as_slice-funcs.result.now c.as_slice-blocks.result.now c.deref-7.result.now
     c.in_ok-weights.weights.items c.count_hot.result c.deref-7.ensures.value
     c.in_ok-weights.ensures.weights c.count_hot.ensures) (c.ignored.ensures ∙ c.in_ok-counts.ensures.ignored)
+
+pub returns-in_err-instructions-clause-refused : goal.returns-in_err-instructions-clause-refused
+returns-in_err-instructions-clause-refused c =
+    let p = err_from_is_err_and c.from_residual-in_err-instructions.result c.from_residual-in_err-instructions.ensures.1 in
+    rw (p.1, p.2) tt

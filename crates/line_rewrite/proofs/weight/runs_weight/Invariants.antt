@@ -2,7 +2,7 @@ use Rattle.std.proofs.Common.{◌≡◌, ◌+◌, ◌*◌, ◌-◌, ◌^◌, len
 use Rattle.std.specs.Prelude.{min, sum_by}
 use Rattle.answer_runs.specs.Weights.{run_weight}
 use Rattle.line_rewrite.specs.Tables.{row_weight}
-use Rattle.line_rewrite.proofs.weight.weight_of.Given as goal
+use Rattle.line_rewrite.proofs.weight.runs_weight.Given as goal
 
 abbrev pub invariant-loop-run : goal.invariant-loop-run
 invariant-loop-run l =

@@ -5,7 +5,7 @@ use Rattle.answer_runs.specs.declared.run.Run.{Run}
 use Rattle.answer_runs.specs.Weights.{run_weight}
 use Rattle.line_rewrite.specs.LineAnswers.{LineSaid}
 use Rattle.line_rewrite.specs.Tables.{row_weight}
-use Rattle.line_rewrite.proofs.weight.weight_of.Goals as goal
+use Rattle.line_rewrite.proofs.weight.runs_weight.Goals as goal
 
 summed : (sum rows limit : ℕ) → min (min sum limit + min (min (rows * 96) limit + 32) limit) limit ≡ min (sum + (32 + 96 * rows)) limit
 summed sum rows limit = omega arith
