@@ -199,9 +199,9 @@ class Checks:
         counts, _ = program.graph.read_profile(profile)
         for taken, kept in ((101, False), (100, True), (99, True)):
             costs = iter([Cost(100, 0, 0, 0, 0), *[Cost(taken, 0, 0, 0, 0)] * 9])
-            layout = lambda wished: types.SimpleNamespace(cost=lambda given: next(costs), long_way=lambda branch: None)
+            layout = types.SimpleNamespace(long_way=lambda branch: None)
             wishes = Wishes(program, counts, Weighing())
-            refine(types.SimpleNamespace(layout=layout), wishes)
+            refine(types.SimpleNamespace(layout=lambda wished: layout, cost=lambda layout: next(costs)), wishes)
             self.expect(bool(wishes.done), kept, f"wishes of {taken} beside 100")
             self.expect(wishes.counts != counts, kept, f"counts by wishes of {taken} beside 100")
         chance, lines = random.Random(5), open(profile, encoding="ascii").read().splitlines()

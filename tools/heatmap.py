@@ -27,8 +27,9 @@ import os
 import re
 import sys
 
-from branches import Code, Moves
 from elf_file import ElfFile
+from layout_estimate import Layout, all_moves
+from program_graph import BRANCH, Elf, Failure, run_script, want_other, written_whole
 
 LINE, PAGE, COLUMNS, STEP = 64, 4096, 64, 8
 SIGNS = " .:-=+*#%@"
@@ -52,7 +53,9 @@ def spans_of(path):
             spans = [(int(new, 16), int(size), int(old, 16)) for new, size, old in map(str.split, lines)]
     except ValueError:
         pass  # another file, or one of bytes
-    return spans or sys.exit(f"{path} is no map: the names are those of IN, OUT, MAP and PROFILE, in this order")
+    if not spans:
+        raise Failure(f"{path} is no map: the names are those of IN, OUT, MAP and PROFILE, in this order")
+    return spans
 
 
 def edges_of(profile, path):
@@ -239,19 +242,18 @@ class Rewrite:
 
     def __init__(self, old, new, map_path, profile):
         self.old, self.new, self.spans = old, new, spans_of(map_path)
-        self.named = functions_of(old)
+        self.elf, self.named = Elf(old), functions_of(old)
         self.instructions = sorted(source for _, _, source in self.spans)
         # What doesn't fit is left out, as `rewrite` does with a profile of a program that changed.
         known = set(self.instructions)
         self.edges = {pair: count for pair, count in edges_of(profile, old).items() if known.issuperset(pair)}
         if not self.edges:
             print(f"no line of {profile} names two instructions of {old}", file=sys.stderr)
-        self.counts = counts_of(self.edges, ElfFile(old).entry, self.instructions, self.named[0])
+        self.counts = counts_of(self.edges, self.elf.entry, self.instructions, self.named[0])
 
     def pictures(self, cell=None):
         """Both pictures: of the old code, and of the new."""
-        code = Code(self.old)
-        before = [(source, code.at(source)[0], self.counts[source]) for source in self.instructions]
+        before = [(source, self.elf.size(source), self.counts[source]) for source in self.instructions]
         after = [(at, size, self.counts[source]) for at, size, source in self.spans]
         cell = cell or cell_for(before)
         return [Picture(f"{os.path.basename(self.old)}: before", before, cell, self.named),
@@ -259,10 +261,18 @@ class Rewrite:
 
     def moves(self):
         """What the run did in both files."""
-        old, new = Code(self.old), Code(self.new)
-        moves = Moves(old, self.edges, self.counts)
-        same = {at: (at, old.at(at)[0]) for at in self.instructions}
-        return moves.totals(old, same), moves.totals(new, {source: (at, size) for at, size, source in self.spans})
+        moves, places = all_moves(self.elf, self.edges, self.counts), self.instructions
+        layouts = [Layout(self.elf, {at: at for at in places}, {at: self.elf.size(at) for at in places}),
+                   Layout(self.elf, {source: at for at, _, source in self.spans},
+                          {source: size for _, size, source in self.spans})]
+        return [self.figures(layout, moves) for layout in layouts]
+
+    def figures(self, layout, moves):
+        """Instructions, taken branches, and runs of branches around a jump, in a layout."""
+        taken, more = layout.transfers(moves)
+        around = sum(count for at, count in self.counts.items()
+                     if count and self.elf.kind(at) == BRANCH and layout.is_around(at))
+        return {"instructions": sum(moves.values()) + more, "taken": taken, "long": around}
 
 
 def table(figures):
@@ -289,7 +299,9 @@ def arguments():
         words.error("--cell wants a number of bytes")
     for path in (given.IN, given.OUT, given.MAP, given.PROFILE):
         if not os.path.exists(path):
-            sys.exit(f"there is no file {path}")
+            raise Failure(f"there is no file {path}")
+        if given.svg:
+            want_other(given.svg, path)
     return given
 
 
@@ -307,9 +319,9 @@ def main():
         print(f"each sign is {pictures[0].cell} bytes; the least count of a sign: {legend_text()}")
         print("\n".join(table(figures)))
     if given.svg:
-        with open(given.svg, "w", encoding="utf-8") as file:
+        with written_whole(given.svg) as draft, open(draft, "w", encoding="utf-8") as file:
             file.write(svg(pictures, table(figures)))
 
 
 if __name__ == "__main__":
-    main()
+    run_script(main)

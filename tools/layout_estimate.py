@@ -1,9 +1,10 @@
-"""Layouts that profiles give, by the tool's maps, and what each costs in a run by the counts of that run alone."""
+"""What a layout costs in a run, by the counts of a profile and the lines of a map: no file is run."""
+import collections
 import os
 import struct
 import typing
 
-from program_graph import BRANCH, CALL, JUMP, RETURN, call_tool
+from program_graph import BRANCH, CALL, JUMP, OTHER, RETURN, call_tool
 
 LINE_BITS, PAGE_BITS = 6, 12
 LONG = 8  # bytes of a branch around a jump
@@ -24,97 +25,109 @@ class Cost(typing.NamedTuple):
         return self.taken + of_instruction * self.more
 
 
-class Layout:
-    """Where instructions went, by the text of a map: those of `places`, by their addresses in hexadecimal, and how many
-    bytes they have."""
+def all_moves(elf, edges, counts):
+    """The pairs of instructions of which one ran after the other, with their counts: the edges of a profile, and what
+    went on to the next instruction. Of a branch hardware records only how often it was taken: all other of the counted
+    runs of that instruction went on."""
+    moves, known = collections.Counter(edges), collections.Counter()
+    for (source, _), count in edges.items():
+        known[source] += count
+    for source, count in counts.items():
+        if elf.kind(source) in (OTHER, BRANCH) and count > known[source]:
+            moves[source, source + elf.size(source)] += count - known[source]
+    return moves
 
-    def __init__(self, program, text, places):
-        self.program, self.at, self.size = program, {}, {}
-        for line in text.splitlines():
-            new, size, old = line.split(" ")
-            if old in places:
-                place = places[old]
-                self.at[place], self.size[place] = int(new, 16), int(size)
+
+class Layout:
+    """Where the instructions of a file went: by their addresses in it the new ones (`at`), and how many bytes each
+    became (`size`)."""
+
+    def __init__(self, elf, at, size):
+        self.elf, self.at, self.size = elf, at, size
+
+    def _end(self, place):
+        return self.at[place] + self.size[place]
+
+    def _ends(self, branch):
+        """Where a branch leads: its target, and what follows it."""
+        return self.elf.target(branch), branch + self.elf.size(branch)
 
     def ways(self, branch):
         """What control takes from a branch to its target and to what follows it: by place (transfers, jumps)."""
-        program = self.program
-        start = program.owner[branch].start
-        target, fall = program.elf.target(branch), program.ends[start]
-        end = self.at[branch] + self.size[branch]
+        (target, fall), end, around = self._ends(branch), self._end(branch), int(self.is_long(branch))
         if self.at.get(fall) == end:
-            return {target: (1, int(self.is_long(branch))), fall: (int(self.is_long(branch)), 0)}
+            return {target: (1, around), fall: (around, 0)}
         if self.at.get(target) == end:
-            return {fall: (1, int(self.is_long(branch))), target: (int(self.is_long(branch)), 0)}
-        if self.is_long(branch):
-            return {target: (1, 1), fall: (2, 1)}
-        return {target: (1, 0), fall: (1, 1)}
+            return {fall: (1, around), target: (around, 0)}
+        return {target: (1, around), fall: (1 + around, 1)}
 
     def is_long(self, branch):
-        """Whether a branch is one around a jump."""
-        program = self.program
-        size, end = self.size[branch], self.at[branch] + self.size[branch]
-        ends = program.elf.target(branch), program.ends[program.owner[branch].start]
-        return size >= (LONG if any(self.at.get(place) == end for place in ends) else LONG + 4)
+        """Whether a branch became one around a jump, as its target is too far away."""
+        end = self._end(branch)
+        goes_on = any(self.at.get(place) == end for place in self._ends(branch))
+        return self.size[branch] >= (LONG if goes_on else LONG + 4)
 
     def long_way(self, branch):
         """Where the jump leads that a branch goes around, or nothing."""
         if not self.is_long(branch):
             return None
-        target, fall = self.program.elf.target(branch), self.program.ends[self.program.owner[branch].start]
-        end = self.at[branch] + self.size[branch]
+        (target, fall), end = self._ends(branch), self._end(branch)
         return fall if self.at.get(target) == end != self.at.get(fall) else target
 
-    def cost(self, counts):
-        """The cost of a run, by its counts."""
+    def is_around(self, branch):
+        """Whether a branch leads over a jump only, be that its own or an instruction that follows it."""
+        end, places = self._end(branch), self._ends(branch)
+        for jump, other in (places, places[::-1]):
+            if self.at.get(jump) == end and self.size[jump] and self.elf.kind(jump) == JUMP:
+                if self.elf.target(jump) is not None and self.at.get(other) == self._end(jump):
+                    return True
+        return self.is_long(branch)
+
+    def transfers(self, moves):
+        """How often control goes elsewhere than on in a run, and how many instructions more it takes than before."""
         taken = more = 0
-        kind_of, size_of = self.program.kind, self.program.elf.size
-        for (source, target), count in counts.items():
-            kind, size = kind_of(source), self.size[source]
+        for (source, target), count in moves.items():
+            kind, size = self.elf.kind(source), self.size[source]
             if not size:
                 more -= count
             elif kind == BRANCH:
                 hops, jumps = self.ways(source).get(target, (1, 0))
                 taken, more = taken + hops * count, more + jumps * count
             elif kind in (CALL, JUMP, RETURN):
-                taken += count if self.leaves(source, target) else 0
-            elif size > size_of(source):
+                taken += count if self._leaves(source, target) else 0
+            elif size > self.elf.size(source):
                 taken, more = taken + count, more + count
             if kind == RETURN:
-                added = self.added_after_call(target) * count
-                taken, more = taken + added, more + added
-        return Cost(taken, more, *self.extent(counts))
+                call = self._call_before(target)
+                if call is not None and self.size[call] > self.elf.size(call):  # a jump follows the call
+                    taken, more = taken + count, more + count
+        return taken, more
 
-    def leaves(self, source, target):
-        """Whether a jump, call or return goes elsewhere than on. The way from a call to the block behind it, which
-        repaired profiles have, is none of its own: a return is."""
-        goes_on = self.at[source] + self.size[source] == self.at[target]
-        return not goes_on and self.program.call_before.get(target) != source
+    def _leaves(self, source, target):
+        """Whether a jump, call or return goes elsewhere than on. The way from a call to the instruction behind it,
+        which repaired profiles have, is none of its own: a return is."""
+        end = self._end(source)
+        if self.elf.kind(source) == CALL:  # not the end of a jump that follows it
+            end = self.at[source] + self.elf.size(source)
+        return end != self.at.get(target) and self._call_before(target) != source
 
-    def added_after_call(self, start):
-        """The jumps that control meets from a call to the block behind it."""
-        call = self.program.call_before.get(start)
-        return int(call is not None and self.size[call] > self.program.elf.size(call))
-
-    def extent(self, counts):
-        """Bytes, lines and pages of the blocks that ran."""
-        program, lines, length = self.program, set(), 0
-        ran = {program.owner[place].start for pair in counts for place in pair}
-        for start in ran:
-            code = program.blocks[start].code
-            first, last = self.at[code[0]], self.at[code[-1]] + self.size[code[-1]]
-            length += last - first
-            lines.update(range(first >> LINE_BITS, (last - 1 >> LINE_BITS) + 1))
-        return length, len(lines), len({line >> PAGE_BITS - LINE_BITS for line in lines})
+    def _call_before(self, place):
+        """The call that comes back to a place, or nothing."""
+        if place not in self.elf.starts:
+            for size in (4, 2):
+                call = place - size
+                if call in self.size and self.elf.size(call) == size and self.elf.kind(call) == CALL:
+                    return call
+        return None
 
 
 class Mapper:
-    """Gives layouts of a program by counts. No table of debug data says how code is laid out, so the tool is given a
-    copy without them, which it reads in less time. Of maps it keeps the ends of blocks, and what the pairs of `given`
-    name."""
+    """Gives layouts of a program by counts, and what they cost in the run that the counts `given` are of. No table of
+    debug data says how code is laid out, so the tool is given a copy without them, which it reads in less time. Of maps
+    it keeps the ends of blocks, and what the pairs of `given` name."""
 
     def __init__(self, tool, program, path, given, folder):
-        self.tool, self.program, self.folder = tool, program, folder
+        self.tool, self.program, self.given = tool, program, given
         self.path, self.asked = os.path.join(folder, os.path.basename(path)), os.path.join(folder, "asked")
         with open(self.path, "wb") as file:
             file.write(without_debug_data(program.elf.data))
@@ -124,7 +137,24 @@ class Mapper:
     def layout(self, counts):
         """The layout that a profile with these counts gives."""
         self.program.graph.write_profile(self.asked, counts)
-        return Layout(self.program, call_tool(self.tool, "map", self.path, self.asked), self.places)
+        at, size = {}, {}
+        for line in call_tool(self.tool, "map", self.path, self.asked).splitlines():
+            new, length, old = line.split(" ")
+            if old in self.places:
+                place = self.places[old]
+                at[place], size[place] = int(new, 16), int(length)
+        return Layout(self.program.elf, at, size)
+
+    def cost(self, layout):
+        """The cost of the run in a layout."""
+        program, lines, length = self.program, set(), 0
+        for start in {program.owner[place].start for pair in self.given for place in pair}:
+            code = program.blocks[start].code
+            first, last = layout.at[code[0]], layout.at[code[-1]] + layout.size[code[-1]]
+            length += last - first
+            lines.update(range(first >> LINE_BITS, (last - 1 >> LINE_BITS) + 1))
+        pages = {line >> PAGE_BITS - LINE_BITS for line in lines}
+        return Cost(*layout.transfers(self.given), length, len(lines), len(pages))
 
 
 ALLOCATED, RELOCATIONS, SECTION_BYTES = 2, (4, 9), 64  # SHF_ALLOC; SHT_RELA, SHT_REL

@@ -33,11 +33,17 @@ class Failure(Exception):
 
 def run_script(main):
     """Ends with the status that `main` gives, and with 1 and a line on standard error after a failure."""
-    signal.signal(signal.SIGTERM, lambda number, frame: sys.exit(128 + number))  # so that nothing is left behind
+    for number in (signal.SIGTERM, signal.SIGHUP):  # so that nothing is left behind
+        if signal.getsignal(number) != signal.SIG_IGN:
+            signal.signal(number, lambda it, frame: sys.exit(128 + it))
     try:
         status = main()
+        sys.stdout.flush()
     except Failure as failure:
         print(failure, file=sys.stderr)
+        status = 1
+    except BrokenPipeError:  # nobody reads on
+        os.dup2(os.open(os.devnull, os.O_WRONLY), sys.stdout.fileno())
         status = 1
     except OSError as error:
         print(f"{error.filename or 'this system'}: {error.strerror or error}", file=sys.stderr)
@@ -131,6 +137,9 @@ C_J_PLACES = [12, 8, 10, 9, 6, 7, 2, 11, 5, 4, 3]
 C_BRANCH_PLACES = [12, 6, 5, 2, 11, 10, 4, 3]
 
 
+LINKS = 1, 5  # registers from which an indirect jump is a return (the manual's hints for return-address stacks)
+
+
 def kind_of(word):
     """How the instruction passes control on whose lowest bits are a word of 32 bits."""
     if word & 3 == 3:
@@ -140,13 +149,13 @@ def kind_of(word):
         if code == 0x6F:
             return CALL if saves else JUMP
         if code == 0x67:
-            return CALL if saves else RETURN if word >> 15 & 31 == 1 else JUMP
+            return CALL if saves else RETURN if word >> 15 & 31 in LINKS else JUMP
         return OTHER
     half = word & 0xFFFF
     if half & 3 == 1 and half >> 13 >= 5:
         return JUMP if half >> 13 == 5 else BRANCH
     if half & 0xE07F == 0x8002 and half >> 7 & 31:  # C.JR, C.JALR
-        return CALL if half & 0x1000 else RETURN if half >> 7 & 31 == 1 else JUMP
+        return CALL if half & 0x1000 else RETURN if half >> 7 & 31 in LINKS else JUMP
     return OTHER
 
 

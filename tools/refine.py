@@ -67,7 +67,7 @@ def refine(mapper, wishes):
     """Changes the counts of a profile, and gives the costs by it and by the wishes, as `Cost`. If these aren't better
     they are dropped."""
     weighing = wishes.weighing
-    plain = mapper.layout(wishes.plain).cost(wishes.given)
+    plain = mapper.cost(mapper.layout(wishes.plain))
     wishes.order_blocks()
     if wishes.bytes_that_ran() > CACHE:
         wishes.order_functions()
@@ -77,7 +77,7 @@ def refine(mapper, wishes):
         if not wishes.bring_near(layout):
             break
         layout = mapper.layout(wishes.counts)
-    better = layout.cost(wishes.given)
+    better = mapper.cost(layout)
     if better.weighed(weighing.instruction) > plain.weighed(weighing.instruction):
         wishes.drop()
         better = plain
