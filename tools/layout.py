@@ -22,6 +22,7 @@ import shutil
 import sys
 
 from elf_file import ElfFile
+from program_graph import Failure, run_script
 from programs import follow
 
 LINE, PAGE, SETS, WAYS, ENTRIES = 64, 4096, 64, 8, 8
@@ -112,11 +113,12 @@ def shown(result, first):
 def follow_files(paths, words, as_json):
     for path in paths:
         if not os.path.isfile(path):
-            sys.exit(f"there is no file {path}")
+            raise Failure(f"there is no file {path}")
     given = b"" if sys.stdin.isatty() else sys.stdin.buffer.read()
     found = [way_of(path, words, given) for path in paths]
     if not found[0]:
-        sys.exit(f"{paths[0]} doesn't run on qemu-riscv64, or that has no -singlestep and -d exec: run it by itself")
+        raise Failure(f"{paths[0]} doesn't run on qemu-riscv64, or that has no -singlestep and -d exec: run it by "
+                      "itself")
     if as_json:
         alike = all(result is not None and result[1:] == found[0][1:] for result in found)
         runs = [result[0].counts() if result else None for result in found]
@@ -135,9 +137,9 @@ def main():
     words.add_argument("arguments", nargs=argparse.REMAINDER, metavar="WORDS", help="the arguments of both runs")
     given = words.parse_args()
     if not shutil.which("qemu-riscv64"):
-        sys.exit("there is no qemu-riscv64, which Debian's qemu-user has")
+        raise Failure("there is no qemu-riscv64, which Debian's qemu-user has")
     follow_files(given.files + given.also, given.arguments, given.json)
 
 
 if __name__ == "__main__":
-    main()
+    run_script(main)

@@ -11,8 +11,8 @@ import argparse
 import os
 import shutil
 import subprocess
-import sys
 
+from program_graph import Failure, run_script
 from programs import CROSS, output
 
 MACHINE = ["-march=rv64imc", "-mabi=lp64"]
@@ -25,19 +25,20 @@ def main():
     words.add_argument("folder", nargs="?", default=".")
     given = words.parse_args()
     if not shutil.which(CROSS + "gcc"):
-        sys.exit(f"there is no {CROSS}gcc, which Debian's gcc-riscv64-unknown-elf has")
+        raise Failure(f"there is no {CROSS}gcc, which Debian's gcc-riscv64-unknown-elf has")
     libraries = [os.path.join(given.picolibc, "lib", "rv64im", "lp64", "libc.a"),
                  output([CROSS + "gcc", *MACHINE, "-print-libgcc-file-name"]).strip()]
     os.makedirs(given.folder, exist_ok=True)
     for path in libraries:
         if not os.path.isfile(path):
-            sys.exit(f"there is no {path}, which Debian's picolibc-riscv64-unknown-elf or gcc-riscv64-unknown-elf has")
+            raise Failure(f"there is no {path}, which Debian's picolibc-riscv64-unknown-elf or gcc-riscv64-unknown-elf "
+                          "has")
         copy = os.path.join(given.folder, os.path.basename(path))
         status = subprocess.run([CROSS + "strip", "-g", "-o", copy, path], check=False).returncode
         if status:
-            sys.exit(f"{CROSS}strip can't copy {path} to {copy}")
+            raise Failure(f"{CROSS}strip can't copy {path} to {copy}")
         print(copy)
 
 
 if __name__ == "__main__":
-    main()
+    run_script(main)

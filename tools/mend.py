@@ -22,10 +22,11 @@ that the linker kept.
 import argparse
 import bisect
 import os
-import sys
+import struct
 
 from elf_file import SHF_EXECINSTR, ElfFile
 from frame_tables import after_leb, mend_frames
+from program_graph import Failure, run_script, written_whole
 
 START_END, ADDRESS = 0x07, 8  # DWARF 5, section 7.7.3; bytes of an address
 PAIR = 2 * ADDRESS
@@ -146,11 +147,15 @@ def mend(path):
     """Mends a file. Gives what was changed of each kind, as text."""
     elf, said = ElfFile(path), []
     for one, several, mended in KINDS:
-        count = mended(elf)
+        try:
+            count = mended(elf)
+        except (ValueError, IndexError, struct.error):
+            raise Failure(f"{path} is damaged, or cut off: its {several} can't be read") from None
         if count:
             said.append(f"{count} {one if count == 1 else several}")
     if said:
-        elf.save(path)
+        with written_whole(path) as draft:
+            elf.save(draft)
     return ", ".join(said)
 
 
@@ -159,10 +164,10 @@ def main():
     words.add_argument("files", nargs="+", metavar="FILE")
     for path in words.parse_args().files:
         if not os.path.isfile(path):
-            sys.exit(f"there is no file {path}")
+            raise Failure(f"there is no file {path}")
         said = mend(path)
         print(f"{path}: {f'mended {said}' if said else 'nothing to mend'}")
 
 
 if __name__ == "__main__":
-    main()
+    run_script(main)

@@ -134,7 +134,7 @@ class Optimizer:
             return "not asked for"
         try:
             return mend(self.program) or "nothing to mend"
-        except (ValueError, IndexError, SystemExit):
+        except (Failure, SystemExit):
             raise Failure(f"the tables of {self.given.file} are damaged; --no-mend leaves them alone") from None
 
     def run(self):
