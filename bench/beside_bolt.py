@@ -21,9 +21,10 @@ given:
 - `samples`: 5,000 samples of the counts of that run;
 - `half`: a random half of the lines of its profile. Of these two a row says what refining gives after `repair`, too.
 
-At the end stand the columns in which a refined layout is worse than llvm-bolt's or than the plain one. It wants
-Debian's `gcc-riscv64-unknown-elf`, `picolibc-riscv64-unknown-elf`, `bolt-19` and `qemu-user`, and a C compiler; and
-`clang-19` and `lld-19` for half of the files. Sources are fetched as `packages.py` does.
+At the end stand the columns in which a refined layout is worse than llvm-bolt's or than the plain one, and of `same`
+what llvm-bolt wins in instructions by shorter calls alone: it makes a JAL of the AUIPC and JALR of a near call. It
+wants Debian's `gcc-riscv64-unknown-elf`, `picolibc-riscv64-unknown-elf`, `bolt-19` and `qemu-user`, and a C compiler;
+and `clang-19` and `lld-19` for half of the files. Sources are fetched as `packages.py` does.
 """
 import argparse
 import collections
@@ -41,7 +42,7 @@ from packages import PACKAGES, fetch
 from profiles import built, want
 from real_programs import NO_COMPILER, PICOLIBC, ROOT, compilers
 from report_files import Builder
-from ways import COLUMNS, plugin, way_of
+from ways import COLUMNS, long_calls, plugin, way_of
 
 from layout_rule import Program  # of tools/
 from program_graph import Graph
@@ -92,6 +93,7 @@ class Subject:
     def __init__(self, tool, counter, path, inputs):
         self.tool, self.counter, self.path, self.inputs = tool, counter, path, inputs
         self.problems = []
+        self.shortened = None  # the instructions that llvm-bolt spares by shorter calls
 
     def at(self, end):
         """A file beside the subject."""
@@ -173,7 +175,15 @@ class Subject:
             refined = self.refined(self.at(kind + ".repaired"), kind + ".refined", stuck)
             files["repaired and refined"] = self.rewritten(refined, kind + ".best")
         files["BOLT"] = self.bolted(profile, kind + ".bolted")
-        return {name: self.way(name, path) for name, path in files.items()}
+        found = {name: self.way(name, path) for name, path in files.items()}
+        if kind == "same" and found["BOLT"]:
+            self.shortened = self.long_calls(self.path) - self.long_calls(files["BOLT"])
+        return found
+
+    def long_calls(self, path):
+        """The long calls of a run."""
+        words, given = self.inputs[0]
+        return long_calls(path, words, given)
 
     def way(self, name, path):
         """The way of a file, which has to run as the first one does."""
@@ -212,6 +222,14 @@ def worse(name, rows):
                     yield f"{name}, {column}: {change(mine, first):+.1f} %, {other} {change(its, first):+.1f} %"
 
 
+def of_calls(name, rows, shortened):
+    """Of instructions, what llvm-bolt's file would take if calls had stayed long."""
+    if shortened is not None and rows["refined"]:
+        first, mine, its = (rows[layout][0] for layout in ("before", "refined", "BOLT"))
+        yield (f"{name}, instructions: refined {change(mine, first):+.2f} %, BOLT {change(its, first):+.2f} %, and "
+               f"{change(its + shortened, first):+.2f} % without shorter calls")
+
+
 class Bench:
     """Builds programs, and measures their layouts."""
 
@@ -220,15 +238,17 @@ class Bench:
         self.builder, self.counter = Builder(folder, sources, LIBRARIES), plugin(folder)
 
     def measured(self, task):
-        """The rows of a program, a compiler and a kind of profile, and the problems."""
+        """The rows of a program, a compiler and a kind of profile, the problems, and what is said of calls."""
         program, compiler, kind = task
         path = os.path.join(self.folder, f"{program}.{compiler}")
         inputs = [input_of(program, self.sources, other) for other in (False, True)]
         subject = Subject(self.tool, self.counter, path, inputs)
-        return subject.rows(kind), subject.problems
+        rows = subject.rows(kind)
+        return rows, subject.problems, list(of_calls(f"{program}, {compiler}", rows, subject.shortened))
 
     def all(self, programs, kinds, jobs):
-        """Prints a table of each kind of profile. Gives what is worse than elsewhere, and the problems."""
+        """Prints a table of each kind of profile. Gives what is worse than elsewhere, with what is said of calls, and
+        the problems."""
         pairs = [(program, compiler) for program in programs for compiler in self.builder.parts]
         worse_ones, problems = [], []
         for program, compiler in pairs:
@@ -237,10 +257,10 @@ class Bench:
             for kind in kinds:
                 print(f"\n{kind}\n\n| program | layout | {' | '.join(COLUMNS)} |\n|---|---|{'---|' * len(COLUMNS)}")
                 tasks = [(*pair, kind) for pair in pairs]
-                for (program, compiler, _), (rows, said) in zip(tasks, pool.map(self.measured, tasks)):
+                for (program, compiler, _), (rows, said, calls) in zip(tasks, pool.map(self.measured, tasks)):
                     name = f"{program}, {compiler}"
                     print_rows(name, rows)
-                    worse_ones += worse(f"{kind}: {name}", rows)
+                    worse_ones += [*worse(f"{kind}: {name}", rows), *calls]
                     problems += said
         return worse_ones, problems
 
@@ -274,7 +294,7 @@ def main():
         folder = given.keep or room
         os.makedirs(folder, exist_ok=True)
         worse_ones, problems = Bench(tool, folder, given.sources).all(given.programs, given.kinds, given.jobs)
-    print(f"\n{len(worse_ones)} columns in which a refined layout is worse")
+    print("\ncolumns in which a refined layout is worse, and calls")
     for line in worse_ones + problems:
         print(f"- {line}")
     sys.exit(1 if problems else 0)

@@ -26,7 +26,9 @@ from real_programs import EXAMPLES, LONGER, NO_COMPILER, ROOT, UNWINDING, build,
 from layout import shown, way_of  # of tools/
 
 REFINE = os.path.join(ROOT, "tools", "refine.py")
-BOLT = ["llvm-bolt-19", "-reorder-blocks=ext-tsp", "-reorder-functions=cdsort", "-split-functions", "-split-all-cold"]
+# llvm-bolt fails at picolibc's `exit`, into which destructors are inlined ("could not find corresponding %pcrel_hi").
+BOLT = ["llvm-bolt-19", "-reorder-blocks=ext-tsp", "-reorder-functions=cdsort", "-split-functions", "-split-all-cold",
+        "-skip-funcs=exit"]
 
 
 def spread(functions):
