@@ -1,15 +1,17 @@
 #!/usr/bin/env python3
 """How fast profiles are made, and how good those of samples are.
 
-    python3 bench/profile_makers.py [--tool COMMAND] [--sources FOLDER] [--keep FOLDER] times|samples [PROGRAM..]
+    python3 bench/profile_makers.py [--tool COMMAND] [--sources FOLDER] [--keep FOLDER] [--seed NUMBER] times|samples
+        [PROGRAM..]
 
 `times` gives of a run of each program, with words that make it long, the seconds of the processor that it takes under
 `qemu-riscv64` alone, by `record`, and by `tools/qemu_profile.py` as a whole, and whether both profiles are the same.
 
 `samples` takes the address of an instruction of a run every so often, at distances that vary by half, as a counter of
-instructions would, and makes a profile of these by `tools/sample_profile.py`. A line has how often control went
-elsewhere than on in the program, in that moved by the profile of all branches, and in those moved by samples; but for
-the first, the second number is without branches that are taken around a jump to code which is too far away.
+instructions would, and makes a profile of these by `tools/sample_profile.py`. Another NUMBER takes other samples. A
+line has how often control went elsewhere than on in the program, in that moved by the profile of all branches, and in
+those moved by samples; but for the first, the second number is without branches that are taken around a jump to code
+which is too far away.
 
 The programs are those of `examples/`, and those of Debian's packages if FOLDER has their sources (packages.py), built
 by GCC at -O2. It wants qemu-user, GCC and picolibc.
@@ -32,19 +34,19 @@ from qemu_trace import QEMU, trace_run
 
 TOOLS = os.path.join(ROOT, "tools")
 LONG = {"sorting": "1500", "interpreter": "60000", "shapes": "40000", "packing": "400000"}
-SAMPLED = {"sorting": "150", "interpreter": "1600", "shapes": "1000", "packing": "40000"}
+SAMPLED = {"sorting": "150", "interpreter": "1600", "shapes": "1000", "packing": "40000", "words": "2000"}
 STEPS = ["--steps", "100000000000"]
 SAMPLES = (50_000, 5_000, 500)
 AROUND = 8  # bytes of a branch and the jump that it goes around
 
 
-def sampled(path, words, given, counts):
+def sampled(path, words, given, counts, seed=7):
     """For each of some counts about as many addresses of a run's instructions, in order."""
     with tempfile.TemporaryFile() as file:
         file.write(given)
         file.seek(0)
         steps = trace_run([path, *words], stdin=file, stdout=subprocess.DEVNULL)[1].instructions()
-    dice = random.Random(7)
+    dice = random.Random(seed)
     samplers = [[max(steps // count, 2), 1, []] for count in counts]
 
     def go(address):
@@ -75,8 +77,8 @@ def taken(path, words, given):
 class Makers:
     """Programs, and what is measured of them."""
 
-    def __init__(self, tool, folder, sources):
-        self.tool, self.folder, self.sources = tool, folder, sources
+    def __init__(self, tool, folder, sources, seed):
+        self.tool, self.folder, self.sources, self.seed = tool, folder, sources, seed
         self.builder = Builder(folder, sources or folder)
 
     def path(self, name):
@@ -128,7 +130,7 @@ class Makers:
         subprocess.run([*self.tool, "record", *STEPS, path, profile, "--", *words], input=given,
                        stdout=subprocess.DEVNULL, check=False)
         cells = [f"{taken(path, words, given)[0]:,}", shown(taken(self.moved(path, profile), words, given))]
-        for found in sampled(path, words, given, SAMPLES):
+        for found in sampled(path, words, given, SAMPLES, self.seed):
             text = "".join(f"{address:16x}\n" for address in found)
             subprocess.run(self.script("sample_profile.py", path, profile), input=text, text=True,
                            stdout=subprocess.DEVNULL, check=True)
@@ -146,6 +148,7 @@ def main():
     words.add_argument("--tool", default=os.path.join(ROOT, "sudrepka"), help="the command that takes `rewrite ..`")
     words.add_argument("--sources", help="where the sources of packages are")
     words.add_argument("--keep", help="a folder for what is built")
+    words.add_argument("--seed", type=int, default=7, help="by which samples are taken (7)")
     words.add_argument("what", choices=["times", "samples"])
     words.add_argument("programs", metavar="PROGRAM", nargs="*")
     given = words.parse_args()
@@ -155,8 +158,9 @@ def main():
     with tempfile.TemporaryDirectory() as room:
         folder = os.path.abspath(given.keep or room)
         os.makedirs(folder, exist_ok=True)
-        makers = Makers(built(given.tool), folder, given.sources)
-        for name in given.programs or [*LONG, *(PACKAGES if given.sources else ())]:
+        makers = Makers(built(given.tool), folder, given.sources, given.seed)
+        own = LONG if given.what == "times" else SAMPLED
+        for name in given.programs or [*own, *(PACKAGES if given.sources else ())]:
             getattr(makers, given.what)(name)
 
 
