@@ -29,7 +29,7 @@ import sys
 
 from elf_file import ElfFile
 from layout_estimate import Layout, all_moves
-from program_graph import BRANCH, Elf, Failure, run_script, want_other, written_whole
+from program_graph import BRANCH, Elf, Failure, run_script, written_whole
 
 LINE, PAGE, COLUMNS, STEP = 64, 4096, 64, 8
 SIGNS = " .:-=+*#%@"
@@ -300,8 +300,8 @@ def arguments():
     for path in (given.IN, given.OUT, given.MAP, given.PROFILE):
         if not os.path.exists(path):
             raise Failure(f"there is no file {path}")
-        if given.svg:
-            want_other(given.svg, path)
+        if given.svg and os.path.realpath(given.svg) == os.path.realpath(path):
+            raise Failure(f"{path} is read: the picture wants another name")
     return given
 
 

@@ -28,11 +28,12 @@ def main():
         raise Failure(f"there is no {CROSS}gcc, which Debian's gcc-riscv64-unknown-elf has")
     libraries = [os.path.join(given.picolibc, "lib", "rv64im", "lp64", "libc.a"),
                  output([CROSS + "gcc", *MACHINE, "-print-libgcc-file-name"]).strip()]
-    os.makedirs(given.folder, exist_ok=True)
     for path in libraries:
         if not os.path.isfile(path):
             raise Failure(f"there is no {path}, which Debian's picolibc-riscv64-unknown-elf or gcc-riscv64-unknown-elf "
                           "has")
+    os.makedirs(given.folder, exist_ok=True)
+    for path in libraries:
         copy = os.path.join(given.folder, os.path.basename(path))
         status = subprocess.run([CROSS + "strip", "-g", "-o", copy, path], check=False).returncode
         if status:

@@ -102,7 +102,10 @@ def written_whole(path, mode=None):
     if os.path.exists(real) and not os.path.isfile(real):
         raise Failure(f"{path} is no file that can be replaced")
     folder, name = os.path.split(real)
-    number, draft = tempfile.mkstemp(prefix=f".{name}.", dir=folder)
+    try:
+        number, draft = tempfile.mkstemp(prefix=f".{name}.", dir=folder)
+    except OSError as error:
+        raise Failure(f"{path} can't be written: {error.strerror}") from None
     os.close(number)
     try:
         yield draft
