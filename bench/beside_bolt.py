@@ -93,7 +93,6 @@ class Subject:
     def __init__(self, tool, counter, path, inputs):
         self.tool, self.counter, self.path, self.inputs = tool, counter, path, inputs
         self.problems = []
-        self.shortened = None  # the instructions that llvm-bolt spares by shorter calls
 
     def at(self, end):
         """A file beside the subject."""
@@ -175,15 +174,11 @@ class Subject:
             refined = self.refined(self.at(kind + ".repaired"), kind + ".refined", stuck)
             files["repaired and refined"] = self.rewritten(refined, kind + ".best")
         files["BOLT"] = self.bolted(profile, kind + ".bolted")
-        found = {name: self.way(name, path) for name, path in files.items()}
-        if kind == "same" and found["BOLT"]:
-            self.shortened = self.long_calls(self.path) - self.long_calls(files["BOLT"])
-        return found
+        return {name: self.way(name, path) for name, path in files.items()}
 
-    def long_calls(self, path):
-        """The long calls of a run."""
-        words, given = self.inputs[0]
-        return long_calls(path, words, given)
+    def shortened(self, kind):
+        """The instructions that llvm-bolt's file by a kind of profile spares by shorter calls."""
+        return long_calls(self.path, *self.inputs[0]) - long_calls(self.at(kind + ".bolted"), *self.inputs[0])
 
     def way(self, name, path):
         """The way of a file, which has to run as the first one does."""
@@ -224,10 +219,9 @@ def worse(name, rows):
 
 def of_calls(name, rows, shortened):
     """Of instructions, what llvm-bolt's file would take if calls had stayed long."""
-    if shortened is not None and rows["refined"]:
-        first, mine, its = (rows[layout][0] for layout in ("before", "refined", "BOLT"))
-        yield (f"{name}, instructions: refined {change(mine, first):+.2f} %, BOLT {change(its, first):+.2f} %, and "
-               f"{change(its + shortened, first):+.2f} % without shorter calls")
+    first, mine, its = (rows[layout][0] for layout in ("before", "refined", "BOLT"))
+    return (f"{name}, instructions: refined {change(mine, first):+.2f} %, BOLT {change(its, first):+.2f} %, and "
+            f"{change(its + shortened, first):+.2f} % without shorter calls")
 
 
 class Bench:
@@ -238,13 +232,12 @@ class Bench:
         self.builder, self.counter = Builder(folder, sources, LIBRARIES), plugin(folder)
 
     def measured(self, task):
-        """The rows of a program, a compiler and a kind of profile, the problems, and what is said of calls."""
+        """The subject of a program, a compiler and a kind of profile, and its rows."""
         program, compiler, kind = task
         path = os.path.join(self.folder, f"{program}.{compiler}")
         inputs = [input_of(program, self.sources, other) for other in (False, True)]
         subject = Subject(self.tool, self.counter, path, inputs)
-        rows = subject.rows(kind)
-        return rows, subject.problems, list(of_calls(f"{program}, {compiler}", rows, subject.shortened))
+        return subject, subject.rows(kind)
 
     def all(self, programs, kinds, jobs):
         """Prints a table of each kind of profile. Gives what is worse than elsewhere, with what is said of calls, and
@@ -257,11 +250,13 @@ class Bench:
             for kind in kinds:
                 print(f"\n{kind}\n\n| program | layout | {' | '.join(COLUMNS)} |\n|---|---|{'---|' * len(COLUMNS)}")
                 tasks = [(*pair, kind) for pair in pairs]
-                for (program, compiler, _), (rows, said, calls) in zip(tasks, pool.map(self.measured, tasks)):
+                for (program, compiler, _), (subject, rows) in zip(tasks, pool.map(self.measured, tasks)):
                     name = f"{program}, {compiler}"
                     print_rows(name, rows)
-                    worse_ones += [*worse(f"{kind}: {name}", rows), *calls]
-                    problems += said
+                    worse_ones += worse(f"{kind}: {name}", rows)
+                    problems += subject.problems
+                    if kind == "same" and rows["BOLT"] and rows["refined"]:
+                        worse_ones.append(of_calls(name, rows, subject.shortened(kind)))
         return worse_ones, problems
 
 

@@ -21,7 +21,7 @@ import sys
 import tempfile
 
 from profiles import CROSS, built, output, record
-from real_programs import EXAMPLES, LONGER, NO_COMPILER, ROOT, UNWINDING, build, compilers
+from real_programs import LONGER, NO_COMPILER, ROOT, UNWINDING, build, compilers
 
 from layout import shown, way_of  # of tools/
 
@@ -129,7 +129,7 @@ def main():
     with tempfile.TemporaryDirectory() as folder:
         path = os.path.join(folder, "program")
         for program in sorted(set(LONGER) - set(UNWINDING)):
-            build(path, os.path.join(EXAMPLES, program), "gcc", gcc, "roomy", "-O2")
+            build(path, program, "gcc", gcc, "roomy", "-O2")
             compare(tool, program, path, [LONGER[program]], folder)
         for functions in given.functions or [400, 3000]:
             source = os.path.join(folder, "spread")
