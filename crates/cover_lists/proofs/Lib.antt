@@ -1,6 +1,8 @@
 mod CoverTreeFacts
 pub mod SmallSteps
 pub mod GroupFacts
+mod FirstStarts
+pub mod EntryOrderFacts
 mod MemberLists
 pub mod AlikeAddresses
 pub mod AlikeLists

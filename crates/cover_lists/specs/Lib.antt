@@ -2,11 +2,13 @@ pub mod Located
 pub mod ListPlaces
 pub mod CoverTree
 pub mod CoverTreeDepth
+pub mod EntryAddresses
 pub mod Groups
 pub mod CoverIndex
 pub mod Bounds
 pub mod KeptLists
 pub mod GroupRuns
+pub mod EntryOrders
 pub mod ListRuns
 pub mod ListFinder
 pub mod Stretches

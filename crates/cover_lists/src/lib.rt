@@ -3,9 +3,10 @@
 
 pub mod bounds;
 pub mod carried_lists;
-mod cost;
+pub mod cost;
 pub mod cover_index;
 pub mod cover_tree;
+pub mod entry_order;
 pub mod expressions;
 pub mod group_runs;
 pub mod groups;

@@ -1,5 +1,5 @@
 -- Lists of a unit, read and kept.
-use Rattle.std.proofs.Common.{◌≡◌, ◌≢◌, ◌∙◌, ◌+◌, ◌-◌, ◌++◌, ℕ, Bool, true, List, Option, Some, None, Result, Ok}
+use Rattle.std.proofs.Common.{◌≡◌, ◌≢◌, ◌∙◌, ◌+◌, ◌-◌, ◌++◌, ◌∷◌, [], ℕ, Bool, true, List, Option, Some, None, Result, Ok}
 use Rattle.std.proofs.Common.{Err, BTreeMap, nat_cmp, refl, sym, ap, subst, arith, length, take, drop, cond, ⊎_elim}
 use Rattle.std.specs.Prelude.{option_map}
 use Rattle.std.specs.BTreeMap.{IsEmpty, get, is_at}
@@ -16,6 +16,7 @@ use Rattle.dw_lists.specs.declared.list_kind.ListKind.{ListKind}
 use Rattle.dw_lists.specs.declared.list_kind.ListKind.TheVariants as kind
 use Rattle.dw_lists.specs.declared.unit_lists.UnitLists.{UnitLists}
 use Rattle.dw_lists.specs.Faults.{ListSections}
+use Rattle.cover_lists.specs.EntryAddresses.{first_start}
 use Rattle.cover_lists.specs.Groups.{AreNumbered, Grow, HasRanges, covers_in}
 use Rattle.cover_lists.specs.Located.{ranges_in, Located}
 use Rattle.dw_lists.specs.KnownLists.{IsGroupOf, AreKnown, range_list}
@@ -81,13 +82,15 @@ known_more says old new known more at o grow are is made =
 pub new_group : (s : ListSections) (u : Unit) (section : List ℕ) (at : ℕ) (old new : Groups) (n : ℕ) (ls : List Located) →
     section ≡ s.ranges →
     Some ls ≡ list_at ranges_kind section s.units.addr u at → AreNumbered old → n ≡ old.count → new.count ≡ old.count + 1 →
-    new.covers.items ≡ old.covers.items ++ covers_in old.count ls → Grow old new × IsGroupOf new (Some n) (range_list s u at)
-new_group s u section at old new n ls b said numbered number count covers =
+    new.covers.items ≡ old.covers.items ++ covers_in old.count ls →
+    new.firsts.items ≡ old.firsts.items ++ first_start (ranges_in ls) ∷ [] → Grow old new × IsGroupOf new (Some n) (range_list s u at)
+new_group s u section at old new n ls b said numbered number count covers firsts =
     let here : Some ls ≡ range_list s u at = said ∙ ap (λ (l : List ℕ). list_at ranges_kind l s.units.addr u at) b in (
-      group_added old new ls numbered count covers,
+      group_added old new ls numbered count covers firsts,
       subst (λ (o : Option (List Located)). IsGroupOf new (Some n) o) here (record {
         some = refl;
-        ranges = subst (λ (m : ℕ). HasRanges new (Some m) (Some (ranges_in ls))) (sym number) (group_has old new ls numbered count covers);
+        ranges = subst (λ (m : ℕ). HasRanges new (Some m) (Some (ranges_in ls))) (sym number)
+            (group_has old new ls numbered count covers firsts);
       }),
     )
 

@@ -4,12 +4,13 @@ use Rattle.std.specs.Prelude.{Option, option_map, option_and_then, flat_map}
 use Rattle.std.specs.List.{list_any}
 use Rattle.std.specs.Option.{option_or}
 use Rattle.table_core.specs.declared.form.TheConstants.{DW_FORM_addr}
-use Rattle.dw_unit.specs.declared.attribute.TheConstants.{DW_AT_high_pc, DW_AT_ranges}
+use Rattle.dw_unit.specs.declared.attribute.TheConstants.{DW_AT_entry_pc, DW_AT_high_pc, DW_AT_ranges}
 use Rattle.dw_unit.specs.declared.entry.Attr.{Attr}
-use Rattle.dw_unit.specs.CompUnits.{Entry, Unit, units, attr, low_pc, enclosing}
+use Rattle.dw_unit.specs.CompUnits.{Entry, Unit, units, address_of, attr, low_pc, enclosing}
 use Rattle.answer_runs.specs.declared.range.Range.{Range}
 use Rattle.answer_runs.specs.Choices.{first_of}
 use Rattle.dw_lists.specs.Lists.{ranges_kind, list_of}
+use Rattle.cover_lists.specs.EntryAddresses.{entered}
 use Rattle.cover_lists.specs.Located.{Located, hold}
 use Rattle.dw_lists.specs.Faults.{ListSections}
 
@@ -24,6 +25,15 @@ ranges_of s u e = option_or
     (option_and_then
     (λ a. option_map (filter_map (λ (l : Located). l.range)) (list_of ranges_kind s.ranges s.units.addr u a))
     (attr DW_AT_ranges e))
+
+-- The address that an entry gives for its first instruction, and the one at which it is entered: the former, if its
+-- ranges contain it, or else the start of the first range. DWARF 5, section 2.18.
+
+abbrev pub named_entry : List ℕ → Unit → Entry → Option ℕ
+named_entry addr u e = option_or (option_and_then (address_of addr u) (attr DW_AT_entry_pc e)) (low_pc addr u e)
+
+abbrev pub entry_address : ListSections → Unit → Entry → Option ℕ
+entry_address s u e = option_and_then (entered (named_entry s.units.addr u e)) (ranges_of s u e)
 
 -- An entry with its own ranges, and with the nearest ranges: its own, or those of the innermost ancestor that has some.
 pub record Ranged : Type 0 where

@@ -1,16 +1,17 @@
 // How units read lists. DWARF 5, sections 7.28 and 7.29.
-ghost use Rattle.std.specs.Prelude.{◌≡◌, ◌==◌, ℕ, option_map};
+ghost use Rattle.std.specs.Prelude.{◌≡◌, ◌==◌, ℕ, option_and_then, option_map};
 ghost use Rattle.dw_unit.specs.CompUnits as units;
 ghost use Rattle.dw_unit.specs.CompUnits.{Unit};
 ghost use Rattle.dw_unit.specs.ListedUnits.{plain_unit};
-ghost use Rattle.dw_unit.specs.declared.attribute.TheConstants.{DW_AT_addr_base, DW_AT_low_pc};
+ghost use Rattle.dw_unit.specs.declared.attribute.TheConstants.{DW_AT_addr_base, DW_AT_entry_pc, DW_AT_low_pc};
 ghost use Rattle.dw_lists.specs.ListReading.{kind_of};
 ghost use Rattle.dw_lists.specs.Lists.{base_address};
+ghost use Rattle.dw_lists.specs.Ranges as ranges;
 ghost use Rattle.dw_lists.specs.UnitLists.{ReadsLists, own_place};
 
 use crate::addresses::Addresses;
 use crate::list_kind::ListKind;
-use dw_unit::attribute::DW_AT_low_pc;
+use dw_unit::attribute::{DW_AT_entry_pc, DW_AT_low_pc};
 use dw_unit::soundness::bases;
 use dw_unit::{Attr, Entry, attr_named, is_address_index};
 use table_core::form::DW_FORM_addr;
@@ -47,6 +48,23 @@ pub fn low_pc(addresses: &Addresses, attrs: &[Attr]) -> Option<u64>
 {
     let low = attr_named(DW_AT_low_pc, attrs)?;
     address_of(addresses, low)
+}
+
+fn entry_pc(addresses: &Addresses, attrs: &[Attr]) -> Option<u64>
+    ensures { (u : Unit) (e : units.Entry) → addresses.now.base ≡ units.base DW_AT_addr_base u → e.attrs ≡ attrs.now →
+        result ≡ option_and_then (units.address_of addresses.now.section.now u) (units.attr DW_AT_entry_pc e) }
+{
+    let entry = attr_named(DW_AT_entry_pc, attrs)?;
+    address_of(addresses, entry)
+}
+
+/// The address that an entry names for its first instruction: its DW_AT_entry_pc, or else its DW_AT_low_pc. DWARF 5,
+/// section 2.18.
+pub fn named_entry(addresses: &Addresses, attrs: &[Attr]) -> Option<u64>
+    ensures { (u : Unit) (e : units.Entry) → addresses.now.base ≡ units.base DW_AT_addr_base u → e.attrs ≡ attrs.now →
+        result ≡ ranges.named_entry addresses.now.section.now u e }
+{
+    entry_pc(addresses, attrs).or(low_pc(addresses, attrs))
 }
 
 fn base_address(addresses: &Addresses, entries: &[Entry]) -> u64

@@ -10,8 +10,10 @@ ghost use Rattle.dw_unit.specs.CompUnits.{Unit};
 ghost use Rattle.dw_unit.specs.declared.attribute.TheConstants.{DW_AT_addr_base, DW_AT_high_pc};
 ghost use Rattle.dw_lists.specs.Faults as faults;
 ghost use Rattle.dw_lists.specs.Faults.{ListSections};
+ghost use Rattle.cover_lists.specs.EntryAddresses.{first_start};
 ghost use Rattle.cover_lists.specs.Groups.{AreNumbered, Grow, HasRanges, covers_in};
 ghost use Rattle.cover_lists.specs.ListPlaces.{located_of};
+ghost use Rattle.cover_lists.specs.Located.{ranges_in};
 ghost use Rattle.dw_lists.specs.KnownLists.{AreKnown, IsGroupOf, IsLookedUp, range_list, IsNoted};
 ghost use Rattle.dw_lists.specs.Lists as lists;
 ghost use Rattle.dw_lists.specs.Lists.{ranges_kind, has_list};
@@ -50,6 +52,8 @@ fn keep_group(groups: &mut Groups, places: &[Place<'_>], most: usize) -> Result<
     ensures count { OnOk result (groups.new.count ≡ groups.old.count + 1) }
     ensures covers { OnOk result (groups.new.covers.items
         ≡ groups.old.covers.items ++ covers_in groups.old.count (map located_of places.now)) }
+    ensures firsts { OnOk result (groups.new.firsts.items
+        ≡ groups.old.firsts.items ++ first_start (ranges_in (map located_of places.now)) ∷ []) }
 {
     if groups.covers.len().saturating_add(places.len()) > most {
         return Err(NoMemory);

@@ -11,10 +11,11 @@ use Rattle.dw_unit.specs.CompUnits.{Entry, Unit, units, enclosing}
 use Rattle.cover_lists.specs.declared.cover_tree.Cover.{Cover}
 use Rattle.cover_lists.specs.declared.groups.RangedEntry.{RangedEntry}
 use Rattle.dw_lists.specs.Faults.{ListSections}
-use Rattle.list_units.specs.Gathering.{SeenEntry, seen_of, seen_in, seen_kept, ranges_index}
+use Rattle.list_units.specs.Gathering.{SeenEntry, seen_as, seen_in, seen_kept, ranges_index}
 use Rattle.cover_lists.specs.Groups.{group_holds, held_places}
 use Rattle.list_units.specs.RangeReading.{all_seen}
-use Rattle.dw_lists.specs.Ranges.{Ranged, ranges_of, ranged_from, ranged_in, covering}
+use Rattle.cover_lists.specs.EntryAddresses.{first_start}
+use Rattle.dw_lists.specs.Ranges.{Ranged, named_entry, ranges_of, ranged_from, ranged_in, covering}
 use Rattle.cover_lists.specs.Located.{hold}
 use Rattle.dw_lists.specs.UnitLists.{own_place}
 
@@ -33,7 +34,7 @@ places_append xs ys =
 module _ (s : ListSections) (u : Unit) (a : ℕ) where
   one_covered : (e : Entry) (own nearest : Option (List Range)) (more : List Ranged) →
       covered_by (record { entry = e; own = own; nearest = nearest } ∷ more) a
-      ≡ places_held (seen_of e.place (own_place u) (ranges_index e.attrs) own a) ++ covered_by more a
+      ≡ places_held (seen_as s u e own a) ++ covered_by more a
   one_covered e None nearest more = refl
   one_covered e (Some ranges) nearest more = step (list_any (holds_address a) ranges)
     where
@@ -45,6 +46,8 @@ module _ (s : ListSections) (u : Unit) (a : ℕ) where
             place = e.place;
             own = own_place u;
             index = ranges_index e.attrs;
+            entry = named_entry s.units.addr u e;
+            first = first_start ranges;
             held = b;
           } ∷ [] else [])
           ++ covered_by more a
@@ -56,9 +59,9 @@ module _ (s : ListSections) (u : Unit) (a : ℕ) where
   own_covered before (e ∷ es) =
       one_covered e (ranges_of s u e) (first_of (filter_map (ranges_of s u) (e ∷ enclosing e.depth before)))
       (ranged_from (ranges_of s u) (e ∷ before) es)
-      ∙ ap (λ (l : List ℕ). places_held (seen_of e.place (own_place u) (ranges_index e.attrs) (ranges_of s u e) a) ++ l)
+      ∙ ap (λ (l : List ℕ). places_held (seen_as s u e (ranges_of s u e) a) ++ l)
       (own_covered (e ∷ before) es)
-      ∙ sym (places_append (seen_of e.place (own_place u) (ranges_index e.attrs) (ranges_of s u e) a) (seen_in s u es a))
+      ∙ sym (places_append (seen_as s u e (ranges_of s u e) a) (seen_in s u es a))
 
 units_covered : (s : ListSections) (us : List Unit) (a : ℕ) → covered_by (flat_map (ranged_in s) us) a
     ≡ places_held (flat_map (λ (u : Unit). seen_in s u u.entries a) us)
@@ -78,7 +81,14 @@ places_kept covers (r ∷ rs) a = step (group_holds covers r.group a) (places_ke
         map (λ (r : RangedEntry). r.place)
         (if b then r ∷ filter (λ (r : RangedEntry). group_holds covers r.group a) rs else filter
         (λ (r : RangedEntry). group_holds covers r.group a) rs)
-        ≡ map (λ (x : SeenEntry). x.place) (if b then record { place = r.place; own = r.own; index = r.index; held = b }
+        ≡ map (λ (x : SeenEntry). x.place) (if b then record {
+          place = r.place;
+          own = r.own;
+          index = r.index;
+          entry = r.entry;
+          first = r.first;
+          held = b;
+        }
         ∷ filter (λ (x : SeenEntry). x.held) (seen_kept covers rs a)
         else filter (λ (x : SeenEntry). x.held) (seen_kept covers rs a))
     step true e = ap (λ (l : List ℕ). r.place ∷ l) e

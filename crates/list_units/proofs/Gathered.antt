@@ -1,7 +1,7 @@
 -- Ranges of entries, gathered one entry after another.
 use Rattle.std.proofs.Common.{◌≡◌, ◌∙◌, ◌<◌, ◌++◌, ◌∷◌, [], ℕ, true, false, List, Option, Some, None, BTreeMap}
 use Rattle.std.proofs.Common.{refl, sym, ap, subst, arith, map, append-nil, append_assoc}
-use Rattle.std.specs.Prelude.{flat_map}
+use Rattle.std.specs.Prelude.{flat_map, option_and_then}
 use Rattle.std.proofs.lemmas.List.Elements.{All-head, All-tail, All-append, All-weaker, All-nil, All-cons}
 use Rattle.std.proofs.lemmas.List.{map-append}
 use Rattle.std.proofs.lemmas.List.Concat.{flat_map-append}
@@ -15,11 +15,11 @@ use Rattle.cover_lists.specs.declared.groups.Groups.{Groups}
 use Rattle.cover_lists.specs.declared.groups.RangedEntry.{RangedEntry}
 use Rattle.dw_lists.specs.declared.unit_ranges.ListFaults.{ListFaults}
 use Rattle.dw_lists.specs.Faults.{ListSections}
-use Rattle.list_units.specs.Gathering.{SeenEntry, seen_of, seen_in, seen_kept, ranges_index, AreAdded, IsGathering, IsUnitGathered}
-use Rattle.cover_lists.specs.Groups.{AreNumbered, AreWithin, Grow, HasRanges, group_holds, entry_of}
+use Rattle.list_units.specs.Gathering.{SeenEntry, seen_as, seen_in, seen_kept, ranges_index, AreAdded, IsGathering, IsUnitGathered}
+use Rattle.cover_lists.specs.Groups.{AreNumbered, AreWithin, Grow, HasRanges, group_holds, entry_of, first_in}
 use Rattle.dw_lists.specs.KnownLists.{AreKnown, range_list}
 use Rattle.dw_lists.specs.Lists.{ranges_kind}
-use Rattle.dw_lists.specs.Ranges.{ranges_of}
+use Rattle.dw_lists.specs.Ranges.{named_entry, ranges_of}
 use Rattle.dw_lists.specs.UnitLists.{own_place}
 use Rattle.cover_lists.proofs.GroupFacts.{grow_none, grow_more}
 use Rattle.dw_lists.proofs.NotedLists.{lacks_all, bad_all}
@@ -32,29 +32,52 @@ seen_same old new (r ∷ rs) a grow within =
     let here : r.group < old.count = All-head (λ (r : RangedEntry). r.group < old.count) r rs within in
     let held = grow.same r.group a here in
     let more = seen_same old new rs a grow (All-tail (λ (r : RangedEntry). r.group < old.count) r rs within) in
-    λ i. record { place = r.place; own = r.own; index = r.index; held = held i } ∷ more i
+    λ i. record { place = r.place; own = r.own; index = r.index; entry = r.entry; first = r.first; held = held i } ∷ more i
 
 abbrev seen_entry : List Cover → ℕ → RangedEntry → SeenEntry
-seen_entry cs a r = record { place = r.place; own = r.own; index = r.index; held = group_holds cs r.group a }
+seen_entry cs a r = record {
+  place = r.place;
+  own = r.own;
+  index = r.index;
+  entry = r.entry;
+  first = r.first;
+  held = group_holds cs r.group a;
+}
 
 -- One more entry, with the ranges of a group or without ranges.
 module _ (s : ListSections) (u : Unit) (e : Entry) (new : Groups) where
   abbrev entry : Option ℕ → List RangedEntry
-  entry o = entry_of e.place (own_place u) (ranges_index e.attrs) o
+  entry o =
+      entry_of e.place (own_place u) (ranges_index e.attrs) (named_entry s.units.addr u e) (option_and_then (first_in new) o) o
 
   one_seen : (o : Option ℕ) (ranges : Option (List Range)) (a : ℕ) → HasRanges new o ranges →
-      seen_kept new.covers.items (entry o) a ≡ seen_of e.place (own_place u) (ranges_index e.attrs) ranges a
+      seen_kept new.covers.items (entry o) a ≡ seen_as s u e ranges a
   one_seen None None a has = refl
   one_seen None (Some ranges) a has = let f : false ≡ true = has.some in absurd (cc)
   one_seen (Some n) None a has = let f : true ≡ false = has.some in absurd (cc)
   one_seen (Some n) (Some ranges) a has =
-      λ i. record { place = e.place; own = own_place u; index = ranges_index e.attrs; held = has.holds a i } ∷ []
+      λ i. record {
+        place = e.place;
+        own = own_place u;
+        index = ranges_index e.attrs;
+        entry = named_entry s.units.addr u e;
+        first = has.first i;
+        held = has.holds a i;
+      }
+      ∷ []
 
   one_within : (o : Option ℕ) → HasRanges new o (ranges_of s u e) → AreWithin new.count (entry o)
   one_within None has = All-nil (λ (r : RangedEntry). r.group < new.count)
   one_within (Some n) has =
       All-cons (λ (r : RangedEntry). r.group < new.count)
-      (record { place = e.place; group = n; own = own_place u; index = ranges_index e.attrs }) [] (has.within n refl)
+      (record {
+        place = e.place;
+        group = n;
+        own = own_place u;
+        index = ranges_index e.attrs;
+        entry = named_entry s.units.addr u e;
+        first = first_in new n;
+      }) [] (has.within n refl)
       (All-nil (λ (r : RangedEntry). r.group < new.count))
 
   pub entry_added : (old : Groups) (olds news : List RangedEntry) (o : Option ℕ) → Grow old new → AreWithin old.count olds →
@@ -69,7 +92,7 @@ module _ (s : ListSections) (u : Unit) (e : Entry) (new : Groups) where
         ∙ map-append (seen_entry new.covers.items a) olds (entry o)
         ∙ (λ i. seen_same old new olds a grow within i ++ one_seen o (ranges_of s u e) a has i)
         ∙ ap (λ (l : List SeenEntry). seen_kept old.covers.items olds a ++ l)
-        (sym (append-nil (seen_of e.place (own_place u) (ranges_index e.attrs) (ranges_of s u e) a)));
+        (sym (append-nil (seen_as s u e (ranges_of s u e) a)));
   }
 
 -- With all entries before.
@@ -85,7 +108,7 @@ gathered_more s u old mid new olds mids news was known es ds before attrs f g x 
         ∙ append_assoc (seen_kept old.covers.items olds a) (seen_in s u es a) (seen_in s u ds a)
         ∙ ap (λ (l : List SeenEntry). seen_kept old.covers.items olds a ++ l)
         (sym (flat_map-append
-        (λ (e : Entry). seen_of e.place (own_place u) (ranges_index e.attrs) (ranges_of s u e) a) es ds));
+        (λ (e : Entry). seen_as s u e (ranges_of s u e) a) es ds));
   };
   known_are = y.known_are;
   noted = y.noted;

@@ -11,7 +11,7 @@ use Rattle.cover_lists.specs.declared.groups.Groups.{Groups}
 use Rattle.cover_lists.specs.declared.groups.RangedEntry.{RangedEntry}
 use Rattle.dw_lists.specs.declared.unit_ranges.ListFaults.{ListFaults}
 use Rattle.dw_lists.specs.Faults.{ListSections, lacks_offset, bad_list_tables, table_place}
-use Rattle.list_units.specs.Gathering.{SeenEntry, seen_of, seen_in, seen_kept, ranges_index, IsUnitGathered}
+use Rattle.list_units.specs.Gathering.{SeenEntry, seen_as, seen_in, seen_kept, IsUnitGathered}
 use Rattle.dw_lists.specs.Lists.{Kind, ranges_kind, has_list, list_offset, list_at}
 use Rattle.dw_lists.specs.Ranges.{ranges_of}
 use Rattle.dw_lists.specs.IndexedUnits.{indexed_of}
@@ -29,7 +29,7 @@ module _ (s : ListSections) (place offset : ℕ) where
       seen_in s (plain_unit (map listed (e ∷ ds))) (map plain (map listed xs)) a ≡ seen_in s (whole (e ∷ ds)) xs a
   seen_rest e ds [] a = refl
   seen_rest e ds (x ∷ xs) a =
-      ap (λ (l : List SeenEntry). seen_of x.place e.place (ranges_index x.attrs) (ranges_of s (whole (e ∷ ds)) x) a
+      ap (λ (l : List SeenEntry). seen_as s (whole (e ∷ ds)) x (ranges_of s (whole (e ∷ ds)) x) a
       ++ l) (seen_rest e ds xs a)
 
   seen_listed : (es : List Entry) (a : ℕ) → seen_in s (plain_unit (map listed es)) (map plain (map listed es)) a ≡ seen_in s (whole es) es a

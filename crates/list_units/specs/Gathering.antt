@@ -15,10 +15,11 @@ use Rattle.cover_lists.specs.declared.groups.Groups.{Groups}
 use Rattle.cover_lists.specs.declared.groups.RangedEntry.{RangedEntry}
 use Rattle.dw_lists.specs.declared.unit_ranges.ListFaults.{ListFaults}
 use Rattle.dw_lists.specs.Faults.{ListSections, lacks_offset, bad_list_tables}
+use Rattle.cover_lists.specs.EntryAddresses.{first_start}
 use Rattle.cover_lists.specs.Groups.{Grow, AreWithin, group_holds}
 use Rattle.dw_lists.specs.KnownLists.{AreKnown, range_list, IsNoted}
 use Rattle.dw_lists.specs.Lists.{ranges_kind}
-use Rattle.dw_lists.specs.Ranges.{ranges_of}
+use Rattle.dw_lists.specs.Ranges.{named_entry, ranges_of}
 use Rattle.dw_lists.specs.UnitLists.{own_place}
 
 -- The fields that are kept of an entry with ranges, and whether the ranges contain an address.
@@ -28,6 +29,9 @@ pub record SeenEntry : Type 0 where
   pub own : ℕ
   -- The index of its range list, if it refers to the list by an index.
   pub index : Option ℕ
+  -- The address that it gives for its first instruction, and the start of its first range.
+  pub entry : Option ℕ
+  pub first : Option ℕ
   pub held : Bool
 
 -- The index of the range list to which an entry refers, if it does so by an index.
@@ -37,15 +41,28 @@ ranges_index attrs =
     (find (λ (a : Attr). a.name == DW_AT_ranges) attrs)
 
 -- The entry, if it has ranges.
-abbrev pub seen_of : (place own : ℕ) → (index : Option ℕ) → Option (List Range) → ℕ → List SeenEntry
-seen_of place own index None a = []
-seen_of place own index (Some ranges) a =
-    record { place = place; own = own; index = index; held = list_any (holds_address a) ranges } ∷ []
+abbrev pub seen_of : (place own : ℕ) → (index entry : Option ℕ) → Option (List Range) → ℕ → List SeenEntry
+seen_of place own index entry None a = []
+seen_of place own index entry (Some ranges) a =
+    record {
+      place = place;
+      own = own;
+      index = index;
+      entry = entry;
+      first = first_start ranges;
+      held = list_any (holds_address a) ranges;
+    }
+    ∷ []
+
+-- The same for an entry of a unit.
+abbrev pub seen_as : ListSections → Unit → Entry → Option (List Range) → ℕ → List SeenEntry
+seen_as s u e ranges a =
+    seen_of e.place (own_place u) (ranges_index e.attrs) (named_entry s.units.addr u e) ranges a
 
 -- For the entries of a unit.
 abbrev pub seen_in : ListSections → Unit → List Entry → ℕ → List SeenEntry
 seen_in s u es a =
-    flat_map (λ (e : Entry). seen_of e.place (own_place u) (ranges_index e.attrs) (ranges_of s u e) a) es
+    flat_map (λ (e : Entry). seen_as s u e (ranges_of s u e) a) es
 
 -- For the entries that were kept.
 abbrev pub seen_kept : List Cover → List RangedEntry → ℕ → List SeenEntry
@@ -54,6 +71,8 @@ seen_kept covers kept a =
       place = r.place;
       own = r.own;
       index = r.index;
+      entry = r.entry;
+      first = r.first;
       held = group_holds covers r.group a;
     })
     kept

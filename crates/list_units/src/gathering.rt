@@ -13,10 +13,10 @@ ghost use Rattle.dw_lists.specs.KnownLists.{AreKnown, range_list, IsNoted};
 ghost use Rattle.dw_lists.specs.Lists.{ranges_kind};
 ghost use Rattle.dw_lists.specs.UnitLists.{ReadsLists};
 
-use cover_lists::groups::{Groups, RangedEntry};
+use cover_lists::groups::{Groups, RangedEntry, first_in};
 use dw_lists::list_kind::ListKind;
 use dw_lists::list_section::ListSection;
-use dw_lists::unit_lists::{UnitLists, unit_lists};
+use dw_lists::unit_lists::{UnitLists, named_entry, unit_lists};
 use dw_lists::unit_ranges::{KnownLists, ListFaults, note_lists, own_group};
 use dw_unit::attribute::DW_AT_ranges;
 use dw_unit::{Attr, Entry, attr_named};
@@ -42,9 +42,11 @@ fn put_ranged(
     place: u64,
     own: u64,
     index: Option<u64>,
+    entry: Option<u64>,
+    first: Option<u64>,
     group: Option<usize>,
 ) -> Result<(), NoMemory>
-    ensures { OnOk result (ranged.new.items ≡ ranged.old.items ++ entry_of place own index group) }
+    ensures { OnOk result (ranged.new.items ≡ ranged.old.items ++ entry_of place own index entry first group) }
 {
     match group {
         Some(group) => {
@@ -53,6 +55,8 @@ fn put_ranged(
                 group,
                 own,
                 index,
+                entry,
+                first,
             })?;
             Ok(())
         }
@@ -86,7 +90,9 @@ fn add_entry(
     let faults = note_lists(alloc, section, unit, known, groups, &entry.attrs, others)?;
     let group = own_group(alloc, section, unit, known, groups, &entry.attrs)?;
     let index = ranges_index(&entry.attrs);
-    put_ranged(ranged, entry.place, unit.own, index, group)?;
+    let named = named_entry(&unit.addresses, &entry.attrs);
+    let first = first_in(groups, group);
+    put_ranged(ranged, entry.place, unit.own, index, named, first, group)?;
     Ok(faults)
 }
 

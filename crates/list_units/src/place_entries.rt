@@ -38,6 +38,7 @@ pub(crate) fn nothing(alloc: Global) -> PlaceProgress
         groups: Groups {
             covers: Vec::new(alloc),
             count: 0,
+            firsts: Vec::new(alloc),
         },
         kept: Locations {
             lists: Vec::new(alloc),

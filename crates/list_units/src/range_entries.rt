@@ -38,6 +38,7 @@ pub(crate) fn nothing(alloc: Global) -> Progress
         groups: Groups {
             covers: Vec::new(alloc),
             count: 0,
+            firsts: Vec::new(alloc),
         },
         ranged: Vec::new(alloc),
         bad_form: None,

@@ -1,4 +1,4 @@
-mod SpelledEntries
+pub mod SpelledEntries
 pub mod ListsBack
 pub mod WrittenLists
 mod SpelledRanges
@@ -12,3 +12,4 @@ pub mod ListsThere
 pub mod BasesThere
 mod SpelledLocations
 pub mod ForcedRuns
+mod NumberedRanges

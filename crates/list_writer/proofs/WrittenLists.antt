@@ -18,13 +18,13 @@ longer_begins old new o part l b = record {
   at = b.at;
 }
 
-at_key : (k q : ℕ) → k ≢ q → is_at (nat_cmp k) q ≡ Bool.false
+pub at_key : (k q : ℕ) → k ≢ q → is_at (nat_cmp k) q ≡ Bool.false
 at_key k q ne = grind (arith, common_steps)
 
-at_same : (k : ℕ) → is_at (nat_cmp k) k ≡ Bool.true
+pub at_same : (k : ℕ) → is_at (nat_cmp k) k ≡ Bool.true
 at_same k = grind (arith, common_steps)
 
-same_some : (o p : ℕ) → Some o ≡ Some p → o ≡ p
+pub same_some : (o p : ℕ) → Some o ≡ Some p → o ≡ p
 same_some o p e = cc
 
 module _ (lists : List (Vec ℕ)) (old new : List ℕ) (known more : BTreeMap ℕ ℕ) (number : ℕ) (listed : AreListed lists old known) where

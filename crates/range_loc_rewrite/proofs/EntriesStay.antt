@@ -2,7 +2,6 @@
 use Rattle.std.proofs.Common.{◌≡◌, ◌∙◌, ◌+◌, ◌*◌, ◌<◌, ◌==◌, ◌&&◌, ◌||◌, ◌∷◌, [], ℕ, Bool, true, false, List, Option, Some, None}
 use Rattle.std.proofs.Common.{refl, sym, ap, subst, length, map, All, ⊎_elim}
 use Rattle.std.specs.Prelude.{flat_map, Contains, option_and_then, option_map, if◌then◌else◌, is_some, unwrap_or}
-use Rattle.std.specs.Global.{Vec}
 use Rattle.std.specs.List.{AllZip}
 use Rattle.std.proofs.lemmas.Bool.{eqb-true, eq-eqb}
 use Rattle.addr_map.specs.declared.span.Span.{Span}
@@ -23,7 +22,6 @@ use Rattle.cover_lists.specs.declared.cover_tree.Cover.{Cover}
 use Rattle.cover_lists.specs.declared.groups.RangedEntry.{RangedEntry}
 use Rattle.dw_lists.specs.declared.list_kind.ListKind.TheVariants as kind
 use Rattle.dw_lists.specs.Faults.{ListSections}
-use Rattle.cover_lists.specs.GroupRuns.{runs_in, if_held}
 use Rattle.cover_lists.specs.Groups.{group_holds}
 use Rattle.cover_lists.specs.Located.{ranges_in, Located, hold}
 use Rattle.dw_lists.specs.KnownLists.{range_list}
@@ -31,9 +29,9 @@ use Rattle.list_writer.specs.ListBytes.{IsWritable}
 use Rattle.dw_lists.specs.Lists.{ranges_kind, has_list, list_offset}
 use Rattle.dw_lists.specs.Ranges.{ranges_of, up_to}
 use Rattle.dw_lists.specs.UnitLists.{own_place}
-use Rattle.list_writer.specs.WrittenRanges.{bounded}
+use Rattle.list_writer.specs.WrittenRanges.{bounded, runs_bytes}
 use Rattle.list_writer.specs.WrittenTables.{StandsAt}
-use Rattle.range_loc_rewrite.proofs.NamedRanges.{group_list, IsNamed}
+use Rattle.range_loc_rewrite.proofs.NamedRanges.{IsNamed}
 use Rattle.range_loc_rewrite.proofs.BasesStay.{base_stays}
 use Rattle.range_loc_rewrite.proofs.ChangedAttrs.{changed, for_high, new_high, from_high, from_ranges, range_base}
 use Rattle.range_loc_rewrite.proofs.KeptLookups.{IsFound, kept_entry, same_index, sound_at, no_bounds, all_of, place_of}
@@ -49,10 +47,6 @@ use Rattle.range_loc_rewrite.proofs.RangeWeights.{holds_some}
 pub record Stays (s t : ListSections) (spans : List Span) (u v : Unit) (d e : Entry) : Type 0 where
   pub held : (p o : ℕ) → owner spans p ≡ Some o → hold (ranges_of t v e) p ≡ hold (ranges_of s u d) o
   pub fine : AreFine t v e.attrs
-
-some_if : (b : Bool) → is_some (if_held b) ≡ b
-some_if true = refl
-some_if false = refl
 
 -- An entry with a high address has ranges.
 pub high_some : (s : ListSections) (u : Unit) (d : Entry) (h : Attr) → attr 0x12 d ≡ Some h → is_some (low_pc s.units.addr u d) ≡ true →
@@ -82,12 +76,12 @@ list_some s u d a high is fine none =
 
 module _ (s t : ListSections) (tables : List (List ℕ)) (tables_are : All (IsUnit 5) tables) (ranges_are : t.ranges ≡ units_bytes tables)
     (spans : List Span)
-    (covers : List Cover) (kept : List RangedEntry) (lists : List (Vec (Run Bool))) (names : List ListAt) (m : Moves)
+    (covers : List Cover) (kept : List RangedEntry) (order : RangedEntry → List (Run Bool)) (names : List ListAt) (m : Moves)
     (given : (e attr o : ℕ) → new_list_offset names e attr ≡ Some o → new_list_offset m.lists e attr ≡ Some o)
-    (named : (r : RangedEntry) → Contains kept r → IsNamed lists tables names kept r r.index)
-    (says : (r : RangedEntry) → Contains kept r → (p : ℕ) → run_at (runs_in lists r.group) p ≡ if_held
-    (holds_some covers r.group (owner spans p)))
-    (writable : (r : RangedEntry) → Contains kept r → All (IsWritable kind.Ranges) (map bounded (runs_in lists r.group)))
+    (named : (r : RangedEntry) → Contains kept r → IsNamed order tables names kept r r.index)
+    (says : (r : RangedEntry) → Contains kept r → (p : ℕ) → is_some (run_at (order r) p)
+    ≡ holds_some covers r.group (owner spans p))
+    (writable : (r : RangedEntry) → Contains kept r → All (IsWritable kind.Ranges) (map bounded (order r)))
     (us : List Unit) (pairs : AllPaired s covers us kept) (sound_old : AreSoundUnits s.units.addr us)
     (up : Ascends 0 (map place_of (all_of us)))
     (fine_old : (u : Unit) → Contains us u → AreFine s u (flat_map (λ (e : Entry). e.attrs) u.entries))
@@ -111,18 +105,18 @@ module _ (s t : ListSections) (tables : List (List ℕ)) (tables_are : All (IsUn
     -- Its list is in a table.
     stays_by : (a : Attr) → attr 0x55 e ≡ Some a → (at : ℕ) → list_offset ranges_kind t.ranges v a ≡ Some at → (r : RangedEntry) →
         Contains kept r →
-        StandsAt tables at (group_list lists r.group) → ((x : ℕ) → group_holds covers r.group x ≡ hold (ranges_of s u d) x) →
+        StandsAt tables at (runs_bytes (order r)) → ((x : ℕ) → group_holds covers r.group x ≡ hold (ranges_of s u d) x) →
         Stays s t spans u v d e
     stays_by a is at offset r rc stands same = record {
       held = λ p o owned.
-          held_by t v e tables tables_are ranges_are none_high sound a is at offset lists r.group stands (writable r rc) p
-          ∙ ap is_some (says r rc p) ∙ some_if (holds_some covers r.group (owner spans p)) ∙ ap (holds_some covers r.group) owned ∙ same o;
-      fine = fine_by t v e tables tables_are ranges_are none_high sound a is at offset lists r.group stands (writable r rc);
+          held_by t v e tables tables_are ranges_are none_high sound a is at offset (order r) stands (writable r rc) p
+          ∙ says r rc p ∙ ap (holds_some covers r.group) owned ∙ same o;
+      fine = fine_by t v e tables tables_are ranges_are none_high sound a is at offset (order r) stands (writable r rc);
     }
 
-    inside : (at : ℕ) (g : ℕ) → StandsAt tables at (group_list lists g) → at < length t.ranges
-    inside at g stands =
-        subst (λ (l : List ℕ). at < length l) (sym ranges_are) (list_inside kind.Ranges tables at (map bounded (runs_in lists g)) stands
+    inside : (at : ℕ) (runs : List (Run Bool)) → StandsAt tables at (runs_bytes runs) → at < length t.ranges
+    inside at runs stands =
+        subst (λ (l : List ℕ). at < length l) (sym ranges_are) (list_inside kind.Ranges tables at (map bounded runs) stands
         tables_are)
 
     -- It had a high address.
@@ -132,12 +126,12 @@ module _ (s t : ListSections) (tables : List (List ℕ)) (tables_are : All (IsUn
         let none : attr 0x55 d ≡ None = old.ranges h is in
         let index : f.r.index ≡ None =
         f.kept_as.index ∙ ap (λ (o : Option Attr). option_and_then (λ (a : Attr). if a.form == 0x23 then Some a.value else None) o) none in
-        let n = subst (IsNamed lists tables names kept f.r) index (named f.r f.there) in
+        let n = subst (IsNamed order tables names kept f.r) index (named f.r f.there) in
         let offset : new_list_offset m.lists d.place 0x55 ≡ Some n.0 =
         subst (λ (k : ℕ). new_list_offset m.lists k 0x55 ≡ Some n.0) f.kept_as.place (given f.r.place 0x55 n.0 n.1) in
         stays_by (for_high m own (is_first_of u d) d h) (from_high s.units t.units.info m (is_first_of u d) d e c h is none) n.0
         (plain_offset ranges_kind t.ranges v (for_high m own (is_first_of u d) d h) n.0 refl (ap (λ (o : Option ℕ). unwrap_or o 0) offset)
-        (inside n.0 f.r.group n.2))
+        (inside n.0 (order f.r) n.2))
         f.r f.there n.2 f.kept_as.held
 
     module _ (high : attr 0x12 d ≡ None) (a : Attr) (is : attr 0x55 d ≡ Some a) where
@@ -156,12 +150,12 @@ module _ (s t : ListSections) (tables : List (List ℕ)) (tables_are : All (IsUn
           let index : f.r.index ≡ None =
           f.kept_as.index ∙ ap (λ (o : Option Attr). option_and_then (λ (a : Attr). if a.form == 0x23 then Some a.value else None) o) is
           ∙ ap (λ (k : ℕ). if k == 0x23 then Some a.value else None) form in
-          let n = subst (IsNamed lists tables names kept f.r) index (named f.r f.there) in
+          let n = subst (IsNamed order tables names kept f.r) index (named f.r f.there) in
           let offset : new_list_offset m.lists d.place 0x55 ≡ Some n.0 =
           subst (λ (k : ℕ). new_list_offset m.lists k 0x55 ≡ Some n.0) f.kept_as.place (given f.r.place 0x55 n.0 n.1) in
           stays_by new new_is n.0
           (plain_offset ranges_kind t.ranges v new n.0 (ap (λ (n : ℕ). n == 0x23) form)
-          (new_offset m own (is_first_of u d) d a n.0 name form offset) (inside n.0 f.r.group n.2)) f.r f.there n.2 f.kept_as.held
+          (new_offset m own (is_first_of u d) d a n.0 name form offset) (inside n.0 (order f.r) n.2)) f.r f.there n.2 f.kept_as.held
 
       -- It referred to its list by an index.
       stays_index : a.form ≡ 0x23 → IsFound s covers u d kept → Stays s t spans u v d e
@@ -171,14 +165,14 @@ module _ (s t : ListSections) (tables : List (List ℕ)) (tables_are : All (IsUn
           let index : f.r.index ≡ Some a.value =
           f.kept_as.index ∙ ap (λ (o : Option Attr). option_and_then (λ (a : Attr). if a.form == 0x23 then Some a.value else None) o) is
           ∙ ap (λ (k : ℕ). if k == 0x23 then Some a.value else None) form in
-          let n = subst (IsNamed lists tables names kept f.r) index (named f.r f.there) in
+          let n = subst (IsNamed order tables names kept f.r) index (named f.r f.there) in
           let based : base 0x74 v ≡ Some n.0 =
           base_by d dc f.r f.kept_as.own (tests.index (eq-eqb a.form 0x23 form)) n.0 (given f.r.own 0x74 n.0 n.3) in
           let there = subst (λ (l : List ℕ). number_in 4 (n.0 + 4 * a.value) l ≡ Some n.1) (sym ranges_are)
           (offset_there tables (n.0 + 4 * a.value) n.1 n.4 tables_are n.5) in
           stays_by new new_is (n.0 + n.1)
           (index_offset ranges_kind t.ranges v new a.value n.0 n.1 (eq-eqb a.form 0x23 form)
-          (kept_index m own (is_first_of u d) d a name form) based there (inside (n.0 + n.1) n.2.group n.9))
+          (kept_index m own (is_first_of u d) d a name form) based there (inside (n.0 + n.1) (order n.2) n.9))
           n.2 n.8 n.9
           (λ x. same_index s covers us kept f.r n.2 a.value pairs sound_old up f.there n.8 (sym n.6) index n.7 x ∙ f.kept_as.held x)
 

@@ -44,7 +44,8 @@ seen_alike : (cs ds : List Cover) (rs : List RangedEntry) (a : ℕ) → ((g : �
     seen_kept cs rs a ≡ seen_kept ds rs a
 seen_alike cs ds [] a same = refl
 seen_alike cs ds (r ∷ rs) a same =
-    λ i. record { place = r.place; own = r.own; index = r.index; held = same r.group i } ∷ seen_alike cs ds rs a same i
+    λ i. record { place = r.place; own = r.own; index = r.index; entry = r.entry; first = r.first; held = same r.group i }
+    ∷ seen_alike cs ds rs a same i
 
 pub kept_are : (s : ListSections) (groups : Groups) (ranged : List RangedEntry) (index : CoverIndex) (bounds : List ℕ)
     (indexed : List IndexedUnit) →

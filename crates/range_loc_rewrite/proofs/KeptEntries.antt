@@ -8,10 +8,9 @@ use Rattle.answer_runs.proofs.Ascending.{Ascends}
 use Rattle.cover_lists.specs.declared.cover_tree.Cover.{Cover}
 use Rattle.cover_lists.specs.declared.groups.RangedEntry.{RangedEntry}
 use Rattle.dw_lists.specs.Faults.{ListSections}
-use Rattle.list_units.specs.Gathering.{SeenEntry, seen_of, seen_in, seen_kept, ranges_index}
+use Rattle.list_units.specs.Gathering.{SeenEntry, seen_as, seen_in, seen_kept}
 use Rattle.list_units.specs.RangeReading.{all_seen}
 use Rattle.dw_lists.specs.Ranges.{ranges_of}
-use Rattle.dw_lists.specs.UnitLists.{own_place}
 
 abbrev place_of : Entry → ℕ
 place_of e = e.place
@@ -28,7 +27,7 @@ ascends_less less lo (n ∷ ns) h up = (omega (arith, h, up.0), up.1)
 
 module _ (s : ListSections) (a : ℕ) where
   one_ascends : (e : Entry) (u : Unit) (own : Option (List Range)) (lo : ℕ) (ns : List ℕ) → lo ≤ e.place → Ascends (e.place + 1) ns →
-      Ascends lo (map seen_place (seen_of e.place (own_place u) (ranges_index e.attrs) own a) ++ ns)
+      Ascends lo (map seen_place (seen_as s u e own a) ++ ns)
   one_ascends e u None lo ns h up = ascends_less lo (e.place + 1) ns (omega (arith, h)) up
   one_ascends e u (Some ranges) lo ns h up = (h, up)
 
@@ -36,7 +35,7 @@ module _ (s : ListSections) (a : ℕ) where
       ((lo : ℕ) → Ascends lo (map place_of ds) → Ascends lo (map seen_place zs)) → Ascends lo (map seen_place (seen_in s u es a ++ zs))
   unit_ascends u [] ds zs lo up more = more lo up
   unit_ascends u (e ∷ es) ds zs lo up more =
-      let here : List SeenEntry = seen_of e.place (own_place u) (ranges_index e.attrs) (ranges_of s u e) a in
+      let here : List SeenEntry = seen_as s u e (ranges_of s u e) a in
       let joined : map seen_place ((here ++ seen_in s u es a) ++ zs) ≡ map seen_place here ++ map seen_place (seen_in s u es a ++ zs) =
       ap (map seen_place) (assoc here (seen_in s u es a) zs) ∙ map-append seen_place here (seen_in s u es a ++ zs) in
       subst (Ascends lo) (sym joined)

@@ -12,7 +12,7 @@ use Rattle.cover_lists.specs.declared.cover_tree.Cover.{Cover}
 use Rattle.cover_lists.specs.declared.groups.RangedEntry.{RangedEntry}
 use Rattle.dw_lists.specs.declared.named_list.NamedList.{NamedList}
 use Rattle.dw_lists.specs.Faults.{ListSections}
-use Rattle.list_units.specs.Gathering.{seen_of, seen_in, seen_kept, ranges_index}
+use Rattle.list_units.specs.Gathering.{seen_as, seen_in, seen_kept}
 use Rattle.cover_lists.specs.Located.{ranges_in}
 use Rattle.dw_lists.specs.KnownLists.{range_list}
 use Rattle.dw_lists.specs.Lists.{ranges_kind, only_within, offset_of_index}
@@ -20,7 +20,7 @@ use Rattle.dw_lists.specs.ListTables.{AreWithoutHighAddresses}
 use Rattle.list_units.specs.RangeReading.{all_seen}
 use Rattle.dw_lists.specs.Ranges.{ranges_of}
 use Rattle.dw_lists.specs.UnitLists.{own_place}
-use Rattle.list_writer.specs.WrittenRanges.{named_of}
+use Rattle.list_writer.specs.WrittenRanges.{named_by}
 use Rattle.list_writer.specs.WrittenTables.{OwnsRise}
 use Rattle.range_loc_rewrite.proofs.KeptLookups.{place_of, all_of, entries_end, ascends_behind, end_least, own_below, own_least, entry_of}
 use Rattle.range_loc_rewrite.proofs.KeptLookups.{no_bounds}
@@ -31,31 +31,32 @@ owns_less : (less lo : ℕ) (rs : List NamedList) → less ≤ lo → OwnsRise l
 owns_less less lo [] h rise = tt
 owns_less less lo (r ∷ rs) h rise = (omega (arith, h, rise.0), rise.1)
 
-owns_front : (own : ℕ) (front back : List RangedEntry) → ((r : RangedEntry) → Contains front r → r.own ≡ own) →
-    OwnsRise own (map named_of back) → OwnsRise own (map named_of (front ++ back))
-owns_front own [] back owned rise = rise
-owns_front own (r ∷ front) back owned rise =
+owns_front : (number : RangedEntry → ℕ) (own : ℕ) (front back : List RangedEntry) → ((r : RangedEntry) → Contains front r → r.own ≡ own) →
+    OwnsRise own (map (named_by number) back) → OwnsRise own (map (named_by number) (front ++ back))
+owns_front number own [] back owned rise = rise
+owns_front number own (r ∷ front) back owned rise =
     let is : r.own ≡ own = owned r (0, omega arith, refl) in (
       omega (arith, is),
-      subst (λ (n : ℕ). OwnsRise n (map named_of (front ++ back))) (sym is)
-          (owns_front own front back (λ x c. owned x (Contains-there r front x c)) rise),
+      subst (λ (n : ℕ). OwnsRise n (map (named_by number) (front ++ back))) (sym is)
+          (owns_front number own front back (λ x c. owned x (Contains-there r front x c)) rise),
     )
 
-pub owns_rise : (s : ListSections) (covers : List Cover) (us : List Unit) (kept : List RangedEntry) (lo : ℕ) → AllPaired s covers us kept →
-    Ascends lo (map place_of (all_of us)) → OwnsRise lo (map named_of kept)
-owns_rise s covers [] [] lo p up = tt
-owns_rise s covers [] (r ∷ kept) lo p up = elim p [ ]
-owns_rise s covers (u ∷ us) kept lo (AllPaired.unit_more _ _ [] back p more) up =
-    owns_less lo (entries_end lo u.entries) (map named_of back) (end_least lo u.entries (all_of us) up)
-    (owns_rise s covers us back (entries_end lo u.entries) more (ascends_behind lo u.entries (all_of us) up))
-owns_rise s covers (u ∷ us) kept lo (AllPaired.unit_more _ _ (r ∷ front) back p more) up =
+pub owns_rise : (number : RangedEntry → ℕ) (s : ListSections) (covers : List Cover) (us : List Unit) (kept : List RangedEntry)
+    (lo : ℕ) → AllPaired s covers us kept →
+    Ascends lo (map place_of (all_of us)) → OwnsRise lo (map (named_by number) kept)
+owns_rise number s covers [] [] lo p up = tt
+owns_rise number s covers [] (r ∷ kept) lo p up = elim p [ ]
+owns_rise number s covers (u ∷ us) kept lo (AllPaired.unit_more _ _ [] back p more) up =
+    owns_less lo (entries_end lo u.entries) (map (named_by number) back) (end_least lo u.entries (all_of us) up)
+    (owns_rise number s covers us back (entries_end lo u.entries) more (ascends_behind lo u.entries (all_of us) up))
+owns_rise number s covers (u ∷ us) kept lo (AllPaired.unit_more _ _ (r ∷ front) back p more) up =
     let first = entry_of s covers u u.entries (r ∷ front) r p (0, omega arith, refl) in
     let low = own_least lo u.entries (all_of us) first.0 u.place u.abbrev_offset up first.1 in
     let below = own_below lo u.entries (all_of us) first.0 u.place u.abbrev_offset up first.1 in
-    let rest = owns_rise s covers us back (entries_end lo u.entries) more (ascends_behind lo u.entries (all_of us) up) in
-    owns_less lo (own_place u) (map named_of ((r ∷ front) ++ back)) low
-    (owns_front (own_place u) (r ∷ front) back (λ x c. (entry_of s covers u u.entries (r ∷ front) x p c).2.own)
-    (owns_less (own_place u) (entries_end lo u.entries) (map named_of back) (omega (arith, below)) rest))
+    let rest = owns_rise number s covers us back (entries_end lo u.entries) more (ascends_behind lo u.entries (all_of us) up) in
+    owns_less lo (own_place u) (map (named_by number) ((r ∷ front) ++ back)) low
+    (owns_front number (own_place u) (r ∷ front) back (λ x c. (entry_of s covers u u.entries (r ∷ front) x p c).2.own)
+    (owns_less (own_place u) (entries_end lo u.entries) (map (named_by number) back) (omega (arith, below)) rest))
 
 -- Without a section no list is there.
 
@@ -79,7 +80,7 @@ module _ (s : ListSections) (empty : s.ranges ≡ []) where
       let more = none_seen u es ds a (All-tail (λ (e : Entry). attr 0x12 e ≡ None) e (es ++ ds) high) in
       let none : ranges_of s u e ≡ None =
       no_bounds s u e (All-head (λ (e : Entry). attr 0x12 e ≡ None) e (es ++ ds) high) ∙ no_list u (attr 0x55 e) in (
-        (λ i. seen_of e.place (own_place u) (ranges_index e.attrs) (none i) a ++ more.0 i),
+        (λ i. seen_as s u e (none i) a ++ more.0 i),
         more.1,
       )
 

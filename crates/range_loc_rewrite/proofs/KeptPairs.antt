@@ -1,6 +1,6 @@
 -- The entry of each kept one; and entries of one unit with the same index have the same ranges.
 use Rattle.std.proofs.Common.{◌≡◌, ◌∙◌, ◌++◌, ◌∷◌, [], ℕ, List, Option, Some, None, true, refl, sym, ap, subst}
-use Rattle.std.specs.Prelude.{flat_map, is_some}
+use Rattle.std.specs.Prelude.{flat_map, is_some, option_and_then}
 use Rattle.std.specs.List.{list_any}
 use Rattle.answer_runs.specs.declared.range.Range.{Range}
 use Rattle.answer_runs.specs.AddressRanges.{holds_address}
@@ -8,9 +8,10 @@ use Rattle.dw_unit.specs.CompUnits.{Entry, Unit}
 use Rattle.cover_lists.specs.declared.cover_tree.Cover.{Cover}
 use Rattle.cover_lists.specs.declared.groups.RangedEntry.{RangedEntry}
 use Rattle.dw_lists.specs.Faults.{ListSections}
-use Rattle.list_units.specs.Gathering.{SeenEntry, seen_of, seen_in, seen_kept, ranges_index}
+use Rattle.list_units.specs.Gathering.{SeenEntry, seen_as, seen_in, seen_kept, ranges_index}
 use Rattle.cover_lists.specs.Groups.{group_holds}
-use Rattle.dw_lists.specs.Ranges.{ranges_of}
+use Rattle.cover_lists.specs.EntryAddresses.{first_start}
+use Rattle.dw_lists.specs.Ranges.{named_entry, ranges_of}
 use Rattle.cover_lists.specs.Located.{hold}
 use Rattle.dw_lists.specs.UnitLists.{own_place}
 
@@ -19,6 +20,8 @@ pub record IsKeptAs (s : ListSections) (covers : List Cover) (u : Unit) (e : Ent
   pub place : r.place ≡ e.place
   pub own : r.own ≡ own_place u
   pub index : r.index ≡ ranges_index e.attrs
+  pub entry : r.entry ≡ named_entry s.units.addr u e
+  pub first : r.first ≡ option_and_then first_start (ranges_of s u e)
   pub some : is_some (ranges_of s u e) ≡ true
   pub held : (a : ℕ) → group_holds covers r.group a ≡ hold (ranges_of s u e) a
 
@@ -54,7 +57,7 @@ module _ (s : ListSections) (covers : List Cover) where
     split_unit (e ∷ es) kept more same = by_ranges (ranges_of s u e) refl (λ ks h. split_unit es ks more h)
       where
         here : Option (List Range) → ℕ → List SeenEntry
-        here o a = seen_of e.place (own_place u) (ranges_index e.attrs) o a
+        here o a = seen_as s u e o a
 
         assoc : (x y z : List SeenEntry) → ((x ++ y) ++ z) ≡ x ++ (y ++ z)
         assoc [] y z = refl
@@ -72,6 +75,8 @@ module _ (s : ListSections) (covers : List Cover) where
               place = e.place;
               own = own_place u;
               index = ranges_index e.attrs;
+              entry = named_entry s.units.addr u e;
+              first = first_start ranges;
               held = list_any (holds_address a) ranges;
             }
                 ∷ (seen_in s u es a ++ more a)
@@ -92,6 +97,8 @@ module _ (s : ListSections) (covers : List Cover) where
                     place = ap (λ (x : SeenEntry). x.place) (first 0);
                     own = ap (λ (x : SeenEntry). x.own) (first 0);
                     index = ap (λ (x : SeenEntry). x.index) (first 0);
+                    entry = ap (λ (x : SeenEntry). x.entry) (first 0);
+                    first = ap (λ (x : SeenEntry). x.first) (first 0) ∙ sym (ap (option_and_then first_start) is);
                     some = ap is_some is;
                     held = λ a. ap (λ (x : SeenEntry). x.held) (first a) ∙ sym (ap (λ (o : Option (List Range)). hold o a) is);
                   }) p.paired;

@@ -1,11 +1,15 @@
 -- The offsets that attributes get from some lists are the same with more lists.
 use Rattle.std.proofs.Common.{◌≡◌, ℕ, List, Some, None}
 use Rattle.std.specs.Prelude.{Contains}
+use Rattle.addr_map.specs.declared.span.Span.{Span}
 use Rattle.table_core.specs.declared.written.ListAt.{ListAt}
+use Rattle.dw_unit.specs.declared.attribute.TheConstants.{DW_AT_ranges, DW_AT_rnglists_base}
 use Rattle.dw_unit.specs.CompUnits.{Entry, Sections, Unit}
 use Rattle.dw_unit.specs.EntryMoves.{new_list_offset}
+use Rattle.dw_lists.specs.Faults.{ListSections}
 use Rattle.dw_lists.specs.Lists.{Kind, ranges_kind}
 use Rattle.dw_lists.specs.UnitLists.{own_place}
+use Rattle.range_loc_rewrite.specs.EnteredFirst.{AreEnteredFirst}
 use Rattle.range_loc_rewrite.specs.NewOffsets.{GetsBase, GetsOffset, GetOffsets, HasHigh, HasIndex, RangesGetOffsets}
 use Rattle.range_loc_rewrite.proofs.RangesLaw.{given_by}
 
@@ -52,6 +56,22 @@ module _ (names lists : List ListAt) (named : (l : ListAt) → Contains names l 
     offsets = λ u uc e ec name a is naming form. one_more k _ _ (g.offsets u uc e ec name a is naming form);
     bases = λ some u uc needs. base_more k s u (g.bases some u uc needs);
     kept = λ u uc own is none. others own.place (g.kept u uc own is none);
+  }
+
+  pub more_entered : (spans : List Span) (s : ListSections) → AreEnteredFirst spans s names table → AreEnteredFirst spans s lists table
+  more_entered spans s f = record {
+    by_offset = λ u uc e ec none place at.
+        let x = f.by_offset u uc e ec none place at in
+        record { offset = x.offset; is = given_by names lists named e.place DW_AT_ranges x.offset x.is; begins = x.begins };
+    by_index = λ u uc e ec i is alike place at.
+        let x = f.by_index u uc e ec i is alike place at in
+        record {
+          base = x.base;
+          is = given_by names lists named (own_place u) DW_AT_rnglists_base x.base x.is;
+          offset = x.offset;
+          offset_is = x.offset_is;
+          begins = x.begins;
+        };
   }
 
   pub more_ranges : (s : Sections) (old : List ℕ) →

@@ -1,9 +1,8 @@
--- The offsets of the lists of entries whose ranges were written, by the lists of their groups.
-use Rattle.std.proofs.Common.{◌≡◌, ◌∙◌, ◌+◌, ◌*◌, ◌^◌, ◌<◌, ◌≤◌, ◌∷◌, [], ℕ, zero, suc, Bool, true, List, Option, Some, None, refl, sym, ap}
-use Rattle.std.proofs.Common.{subst, arith, length, map, All, ⊎_elim}
-use Rattle.std.specs.Prelude.{Contains, slice_get}
+-- The offsets of the lists of entries whose ranges were written, by the runs of each in its order.
+use Rattle.std.proofs.Common.{◌≡◌, ◌∙◌, ◌+◌, ◌*◌, ◌^◌, ◌<◌, ◌≤◌, ◌∷◌, [], ℕ, Bool, true, List, Option, Some, None, refl, sym, ap}
+use Rattle.std.proofs.Common.{subst, arith, map, All, ⊎_elim}
+use Rattle.std.specs.Prelude.{Contains}
 use Rattle.std.specs.Global.{Vec}
-use Rattle.std.specs.Option.{option_map_or}
 use Rattle.byteorder.specs.Endian.{little_bytes}
 use Rattle.rb_bytes.proofs.Members.{Contains-nil, Contains-cons_cases, Contains-there}
 use Rattle.answer_runs.specs.declared.run.Run.{Run}
@@ -16,71 +15,56 @@ use Rattle.dw_lists.specs.declared.indexed_unit.IndexedUnit.{IndexedUnit}
 use Rattle.dw_lists.specs.declared.list_kind.ListKind.TheVariants.{Ranges}
 use Rattle.dw_lists.specs.declared.named_list.NamedList.{NamedList}
 use Rattle.dw_lists.specs.Faults.{is_list_table}
-use Rattle.cover_lists.specs.GroupRuns.{runs_in}
-use Rattle.list_writer.specs.ListBytes.{list_bytes}
-use Rattle.list_writer.specs.WrittenRanges.{bounded, group_bytes, named_of}
+use Rattle.list_writer.specs.WrittenRanges.{named_by, runs_bytes}
 use Rattle.list_writer.specs.WrittenTables.{bytes_in, key, AreInOrder, StandsAt, AreWritten}
 use Rattle.list_writer.specs.WrittenTables as tables
 use Rattle.range_loc_rewrite.proofs.KeptEntries.{kept_place}
-use Rattle.list_writer.proofs.WrittenLists.{bytes_at}
 
--- The list of the group with a number.
-abbrev pub group_list : List (Vec (Run Bool)) → ℕ → List ℕ
-group_list lists g = list_bytes Ranges (map bounded (runs_in lists g))
-
--- An entry finds its list by the list's offset; or by its index and the base of its unit, at which the list of an entry with the same index
--- is found.
-abbrev pub IsNamed : List (Vec (Run Bool)) → List (List ℕ) → List ListAt → List RangedEntry → RangedEntry → Option ℕ → Type 0
-IsNamed lists tables names all r None =
-    (at : ℕ) × (new_list_offset names r.place 0x55 ≡ Some at) × StandsAt tables at (group_list lists r.group)
-IsNamed lists tables names all r (Some i) =
+-- An entry finds its list by the list's offset; or by its index and the base of its unit, at which the list of an entry
+-- with the same index is found.
+abbrev pub IsNamed : (RangedEntry → List (Run Bool)) → List (List ℕ) → List ListAt → List RangedEntry → RangedEntry → Option ℕ → Type 0
+IsNamed order tables names all r None =
+    (at : ℕ) × (new_list_offset names r.place 0x55 ≡ Some at) × StandsAt tables at (runs_bytes (order r))
+IsNamed order tables names all r (Some i) =
     (base : ℕ) × (o : ℕ) × (like : RangedEntry) × (new_list_offset names r.own 0x74 ≡ Some base)
     × StandsAt tables (base + 4 * i) (little_bytes 4 o) × (o < 2 ^ 32) × (like.own ≡ r.own) × (like.index ≡ Some i)
-    × Contains all like × StandsAt tables (base + o) (group_list lists like.group)
+    × Contains all like × StandsAt tables (base + o) (runs_bytes (order like))
 
-pub record AreNamed (lists : List (Vec (Run Bool))) (kept : List RangedEntry) (bytes : List ℕ) (names : List ListAt) : Type 0 where
+pub record AreNamed (order : RangedEntry → List (Run Bool)) (kept : List RangedEntry) (bytes : List ℕ) (names : List ListAt) : Type 0 where
   pub tables : List (List ℕ)
   pub bytes_are : bytes ≡ units_bytes tables
   pub units : All (IsUnit 5) tables
   pub sound : All (λ b. is_list_table b ≡ true) tables
-  pub each : (r : RangedEntry) → Contains kept r → IsNamed lists tables names kept r r.index
+  pub each : (r : RangedEntry) → Contains kept r → IsNamed order tables names kept r r.index
 
-pub contains_map : (kept : List RangedEntry) (r : RangedEntry) → Contains kept r → Contains (map named_of kept) (named_of r)
-contains_map [] r c = absurd (Contains-nil r c)
-contains_map (x ∷ kept) r c = ⊎_elim
-    (λ (same : x ≡ r). (0, omega arith, ap named_of same))
-    (λ (there : Contains kept r). Contains-there (named_of x) (map named_of kept) (named_of r) (contains_map kept r there))
+pub contains_map : (number : RangedEntry → ℕ) (kept : List RangedEntry) (r : RangedEntry) → Contains kept r →
+    Contains (map (named_by number) kept) (named_by number r)
+contains_map number [] r c = absurd (Contains-nil r c)
+contains_map number (x ∷ kept) r c = ⊎_elim
+    (λ (same : x ≡ r). (0, omega arith, ap (named_by number) same))
+    (λ (there : Contains kept r).
+    Contains-there (named_by number x) (map (named_by number) kept) (named_by number r) (contains_map number kept r there))
     (Contains-cons_cases x kept r c)
 
-pub map_contains : (kept : List RangedEntry) (n : NamedList) → Contains (map named_of kept) n → (r : RangedEntry) × Contains kept r
-    × (named_of r ≡ n)
-map_contains [] n c = absurd (Contains-nil n c)
-map_contains (x ∷ kept) n c = ⊎_elim
-    (λ (same : named_of x ≡ n). (x, (0, omega arith, refl), same))
-    (λ (there : Contains (map named_of kept) n). let p = map_contains kept n there in (p.0, Contains-there x kept p.0 p.1, p.2))
-    (Contains-cons_cases (named_of x) (map named_of kept) n c)
+pub map_contains : (number : RangedEntry → ℕ) (kept : List RangedEntry) (n : NamedList) → Contains (map (named_by number) kept) n →
+    (r : RangedEntry) × Contains kept r × (named_by number r ≡ n)
+map_contains number [] n c = absurd (Contains-nil n c)
+map_contains number (x ∷ kept) n c = ⊎_elim
+    (λ (same : named_by number x ≡ n). (x, (0, omega arith, refl), same))
+    (λ (there : Contains (map (named_by number) kept) n).
+    let p = map_contains number kept n there in (p.0, Contains-there x kept p.0 p.1, p.2))
+    (Contains-cons_cases (named_by number x) (map (named_by number) kept) n c)
 
--- The bytes of a group's list.
-pub group_at : (bs : List (Vec ℕ)) (lists : List (Vec (Run Bool))) (g : ℕ) → map (λ (b : Vec ℕ). b.items) bs ≡ map group_bytes lists →
-    g < length lists →
-    bytes_in bs g ≡ group_list lists g
-group_at bs lists g e h = bytes_at group_bytes bs lists g e ∙ there lists g h
-  where
-    there : (lists : List (Vec (Run Bool))) (g : ℕ) → g < length lists →
-        option_map_or group_bytes (slice_get lists g) [] ≡ group_list lists g
-    there [] g h = absurd (omega arith)
-    there (l ∷ lists) zero h = refl
-    there (l ∷ lists) (suc g) h = there lists g (omega (arith, h))
-
-module _ (bs : List (Vec ℕ)) (lists : List (Vec (Run Bool))) (kept : List RangedEntry) (bytes : List ℕ) (names : List ListAt)
-    (us : List IndexedUnit) (w : AreWritten Ranges bs (map named_of kept) us bytes names)
-    (same : (r : RangedEntry) → Contains kept r → bytes_in bs r.group ≡ group_list lists r.group) where
-  named_by : (r : RangedEntry) → Contains kept r → (i : Option ℕ) →
-      tables.IsNamed Ranges bs w.tables names (map named_of kept) (named_of r) i →
-      IsNamed lists w.tables names kept r i
-  named_by r c None n = (n.0, n.1, subst (StandsAt w.tables n.0) (same r c) n.2)
-  named_by r c (Some i) n =
-      let q = map_contains kept n.2 n.8 in (
+module _ (bs : List (Vec ℕ)) (order : RangedEntry → List (Run Bool)) (number : RangedEntry → ℕ) (kept : List RangedEntry)
+    (bytes : List ℕ) (names : List ListAt)
+    (us : List IndexedUnit) (w : AreWritten Ranges bs (map (named_by number) kept) us bytes names)
+    (same : (r : RangedEntry) → Contains kept r → bytes_in bs (number r) ≡ runs_bytes (order r)) where
+  kept_named : (r : RangedEntry) → Contains kept r → (i : Option ℕ) →
+      tables.IsNamed Ranges bs w.tables names (map (named_by number) kept) (named_by number r) i →
+      IsNamed order w.tables names kept r i
+  kept_named r c None n = (n.0, n.1, subst (StandsAt w.tables n.0) (same r c) n.2)
+  kept_named r c (Some i) n =
+      let q = map_contains number kept n.2 n.8 in (
         n.0,
         n.1,
         q.0,
@@ -93,22 +77,22 @@ module _ (bs : List (Vec ℕ)) (lists : List (Vec (Run Bool))) (kept : List Rang
         subst (StandsAt w.tables (n.0 + n.1)) (ap (λ (x : NamedList). bytes_in bs x.list) (sym q.2) ∙ same q.0 q.1) n.9,
       )
 
-  pub are_named : AreNamed lists kept bytes names
+  pub are_named : AreNamed order kept bytes names
   are_named = record {
     tables = w.tables;
     bytes_are = w.bytes_are;
     units = w.units;
     sound = w.sound;
-    each = λ r c. named_by r c r.index (w.each (named_of r) (contains_map kept r c));
+    each = λ r c. kept_named r c r.index (w.each (named_by number r) (contains_map number kept r c));
   }
 
 -- The attributes of entries are in order.
-pub ranges_in_order : (lo k : ℕ) (kept : List RangedEntry) → Ascends lo (map kept_place kept) → k ≤ key lo 0x55 →
-    AreInOrder Ranges k (map named_of kept)
-ranges_in_order lo k [] up h = tt
-ranges_in_order lo k (r ∷ kept) up h = (
+pub ranges_in_order : (number : RangedEntry → ℕ) (lo k : ℕ) (kept : List RangedEntry) → Ascends lo (map kept_place kept) → k ≤ key lo 0x55 →
+    AreInOrder Ranges k (map (named_by number) kept)
+ranges_in_order number lo k [] up h = tt
+ranges_in_order number lo k (r ∷ kept) up h = (
   omega (arith, h, up.0),
   refl,
-  ranges_in_order (r.place + 1) (key r.place 0x55 + 1) kept up.1
+  ranges_in_order number (r.place + 1) (key r.place 0x55 + 1) kept up.1
       (omega arith),
 )

@@ -17,7 +17,6 @@ use Rattle.dw_unit.specs.Faults.{HasDwarfFault}
 use Rattle.dw_unit.proofs.SoundEntries.{IsSoundEntry, all_sound}
 use Rattle.cover_lists.specs.declared.cover_tree.Cover.{Cover}
 use Rattle.cover_lists.specs.declared.groups.RangedEntry.{RangedEntry}
-use Rattle.cover_lists.specs.GroupRuns.{runs_in}
 use Rattle.cover_lists.specs.Located.{Located, ranges_in}
 use Rattle.dw_lists.specs.declared.list_kind.ListKind.TheVariants as kind
 use Rattle.dw_lists.specs.declared.named_list.NamedList.{NamedList}
@@ -31,7 +30,7 @@ use Rattle.list_units.specs.Gathering.{ranges_index, seen_kept}
 use Rattle.list_units.specs.RangeReading.{all_seen}
 use Rattle.list_writer.specs.FullLists.{IsFullList}
 use Rattle.list_writer.specs.ListBytes.{IsWritable}
-use Rattle.list_writer.specs.WrittenRanges.{bounded, named_of}
+use Rattle.list_writer.specs.WrittenRanges.{bounded, named_by, runs_bytes}
 use Rattle.list_writer.specs.WrittenTables.{AreWritten, bytes_in, indexed_in, with_tables}
 use Rattle.list_writer.proofs.BasesThere.{list_full}
 use Rattle.list_writer.proofs.ListsThere.{list_inside}
@@ -39,7 +38,7 @@ use Rattle.list_writer.proofs.PutEntries.{flat_has}
 use Rattle.range_loc_rewrite.specs.NewOffsets.{GetsBase, GetsOffset, HasHigh, NeedsTable, RangesGetOffsets}
 use Rattle.range_loc_rewrite.proofs.KeptLookups.{IsFound, all_of, kept_entry, no_bounds, place_of, sound_at}
 use Rattle.range_loc_rewrite.proofs.KeptPairs.{all_paired}
-use Rattle.range_loc_rewrite.proofs.NamedRanges.{AreNamed, IsNamed, contains_map, group_list, map_contains}
+use Rattle.range_loc_rewrite.proofs.NamedRanges.{AreNamed, IsNamed, contains_map, map_contains}
 use Rattle.range_loc_rewrite.proofs.NewBases.{IsSpelled, kept_base, new_base}
 use Rattle.range_loc_rewrite.proofs.RangeOrigins.{origin}
 use Rattle.range_loc_rewrite.proofs.RangesStay.{found_name, found_there}
@@ -48,9 +47,9 @@ use Rattle.range_loc_rewrite.proofs.UnitsFree.{units_free}
 use Rattle.range_loc_rewrite.proofs.UsedIndexes.{greatest_is, used_entry}
 
 module _ (s : ListSections) (free : IsFree (HasDwarfFault (range_places s))) (covers : List Cover) (kept : List RangedEntry)
-    (seen : (a : ℕ) → seen_kept covers kept a ≡ all_seen s a) (lists : List (Vec (Run Bool))) (bytes : List ℕ) (names : List ListAt)
-    (w : AreNamed lists kept bytes names) (up : Ascends 0 (map place_of (all_of (units s.units))))
-    (writable : (r : RangedEntry) → Contains kept r → All (IsWritable kind.Ranges) (map bounded (runs_in lists r.group))) where
+    (seen : (a : ℕ) → seen_kept covers kept a ≡ all_seen s a) (order : RangedEntry → List (Run Bool)) (bytes : List ℕ) (names : List ListAt)
+    (w : AreNamed order kept bytes names) (up : Ascends 0 (map place_of (all_of (units s.units))))
+    (writable : (r : RangedEntry) → Contains kept r → All (IsWritable kind.Ranges) (map bounded (order r))) where
   module _ (u : Unit) (uc : Contains (units s.units) u) (e : Entry) (ec : Contains u.entries e) where
     sound : IsSoundEntry s.units.addr u e
     sound = sound_at s.units.addr (units s.units) u e (all_sound s.units (units_free s free)) uc ec
@@ -63,14 +62,14 @@ module _ (s : ListSections) (free : IsFree (HasDwarfFault (range_places s))) (co
 
     by_offset : IsFound s covers u e kept → ranges_index e.attrs ≡ None → GetsOffset ranges_kind names bytes e.place 0x55
     by_offset f index =
-        let x = subst (IsNamed lists w.tables names kept f.r) (f.kept_as.index ∙ index) (w.each f.r f.there) in
+        let x = subst (IsNamed order w.tables names kept f.r) (f.kept_as.index ∙ index) (w.each f.r f.there) in
         record {
           offset = x.0;
           is = ap (λ (n : ℕ). new_list_offset names n 0x55) (sym f.kept_as.place) ∙ x.1;
           within = subst (λ (l : List ℕ). x.0 < length l) (sym w.bytes_are)
-              (list_inside kind.Ranges w.tables x.0 (map bounded (runs_in lists f.r.group)) x.2 w.units);
+              (list_inside kind.Ranges w.tables x.0 (map bounded (order f.r)) x.2 w.units);
           full = subst (λ (l : List ℕ). IsFullList ranges_kind l x.0) (sym w.bytes_are)
-              (list_full kind.Ranges w.tables x.0 (map bounded (runs_in lists f.r.group)) x.2 w.units (writable f.r f.there));
+              (list_full kind.Ranges w.tables x.0 (map bounded (order f.r)) x.2 w.units (writable f.r f.there));
         }
 
     -- An entry whose ranges are in a list.
@@ -119,16 +118,18 @@ module _ (s : ListSections) (free : IsFree (HasDwarfFault (range_places s))) (co
         ranges_index e.attrs ≡ o
     index_is a is o f = ap (option_and_then (λ (a : Attr). if a.form == 0x23 then Some a.value else None)) is ∙ f
 
-  module _ (bs : List (Vec ℕ)) (same : (r : RangedEntry) → Contains kept r → bytes_in bs r.group ≡ group_list lists r.group)
-      (made : AreWritten kind.Ranges bs (map named_of kept) (with_tables (map named_of kept)
-      (indexed_in s.ranges (map named_of kept) (indexed_units ranges_kind s.units))) bytes names)
-      (none : length (map named_of kept) ≡ 0 → length (indexed_in s.ranges (map named_of kept) (indexed_units ranges_kind s.units)) ≡ 0 →
+  module _ (bs : List (Vec ℕ)) (number : RangedEntry → ℕ)
+      (same : (r : RangedEntry) → Contains kept r → bytes_in bs (number r) ≡ runs_bytes (order r))
+      (made : AreWritten kind.Ranges bs (map (named_by number) kept) (with_tables (map (named_by number) kept)
+      (indexed_in s.ranges (map (named_by number) kept) (indexed_units ranges_kind s.units))) bytes names)
+      (none : length (map (named_by number) kept) ≡ 0 →
+      length (indexed_in s.ranges (map (named_by number) kept) (indexed_units ranges_kind s.units)) ≡ 0 →
       bytes ≡ []) where
-    spelled : (n : NamedList) → Contains (map named_of kept) n → IsSpelled kind.Ranges (bytes_in bs n.list)
+    spelled : (n : NamedList) → Contains (map (named_by number) kept) n → IsSpelled kind.Ranges (bytes_in bs n.list)
     spelled n c =
-        let q = map_contains kept n c in
+        let q = map_contains number kept n c in
         record {
-          entries = map bounded (runs_in lists q.0.group);
+          entries = map bounded (order q.0);
           are = ap (λ (x : NamedList). bytes_in bs x.list) (sym q.2) ∙ same q.0 q.1;
           writable = writable q.0 q.1;
         }
@@ -136,15 +137,17 @@ module _ (s : ListSections) (free : IsFree (HasDwarfFault (range_places s))) (co
     found_base : (s.ranges ≡ [] → bytes ≢ []) → (u : Unit) → Contains (units s.units) u → (e : Entry) → Contains u.entries e →
         IsFound s covers u e kept → GetsBase ranges_kind s.units u names bytes
     found_base some u uc e ec f =
-        new_base kind.Ranges HasHigh s.units s.ranges bs (map named_of kept) bytes names made (origin s free covers kept seen) up spelled
-        some none u uc e ec (inr (named_of f.r, contains_map kept f.r f.there, f.kept_as.own))
+        new_base kind.Ranges HasHigh s.units s.ranges bs (map (named_by number) kept) bytes names made
+        (origin s free covers kept seen number) up spelled
+        some none u uc e ec (inr (named_by number f.r, contains_map number kept f.r f.there, f.kept_as.own))
 
     base_of : (s.ranges ≡ [] → bytes ≢ []) → (u : Unit) → Contains (units s.units) u → NeedsTable ranges_kind HasHigh u →
         GetsBase ranges_kind s.units u names bytes
     base_of some u uc (NeedsTable.uses_index i c) =
         let e = used_entry 0x23 u i c in
         let g = greatest_is (indexes 0x23 u) i c in
-        new_base kind.Ranges HasHigh s.units s.ranges bs (map named_of kept) bytes names made (origin s free covers kept seen) up spelled
+        new_base kind.Ranges HasHigh s.units s.ranges bs (map (named_by number) kept) bytes names made
+        (origin s free covers kept seen number) up spelled
         some none u uc e.0 e.1 (inl (ap is_some g.1))
     base_of some u uc (NeedsTable.names_list e k a ec is name form) =
         found_base some u uc e ec
@@ -156,7 +159,8 @@ module _ (s : ListSections) (free : IsFree (HasDwarfFault (range_places s))) (co
       listed = record {
         offsets = λ u uc e ec k a is name form. offset_of u uc e ec k a is (eqb-true k 0x55 name) form;
         bases = base_of;
-        kept = kept_base kind.Ranges HasHigh s.units s.ranges bs (map named_of kept) bytes names made (origin s free covers kept seen) up;
+        kept = kept_base kind.Ranges HasHigh s.units s.ranges bs (map (named_by number) kept) bytes names made
+            (origin s free covers kept seen number) up;
       };
       ends = λ u uc e ec h. ends u uc e ec h;
     }

@@ -16,7 +16,7 @@ use Rattle.dw_lists.specs.Ranges.{ranges_of}
 use Rattle.dw_lists.proofs.OwnRanges.{listed_ranges}
 use Rattle.list_units.specs.Gathering.{seen_kept}
 use Rattle.list_units.specs.RangeReading.{all_seen}
-use Rattle.list_writer.specs.WrittenRanges.{named_of}
+use Rattle.list_writer.specs.WrittenRanges.{named_by}
 use Rattle.range_loc_rewrite.specs.NewOffsets.{HasHigh, NeedsTable}
 use Rattle.range_loc_rewrite.proofs.KeptLookups.{index_attr, kept_from, no_bounds, sound_at}
 use Rattle.range_loc_rewrite.proofs.KeptPairs.{AllPaired, all_paired}
@@ -26,12 +26,12 @@ use Rattle.range_loc_rewrite.proofs.UnitsFree.{units_free}
 use Rattle.range_loc_rewrite.proofs.UsedIndexes.{HasOrigin, used_index}
 
 module _ (s : ListSections) (free : IsFree (HasDwarfFault (range_places s))) (covers : List Cover) (kept : List RangedEntry)
-    (seen : (a : ℕ) → seen_kept covers kept a ≡ all_seen s a) where
+    (seen : (a : ℕ) → seen_kept covers kept a ≡ all_seen s a) (number : RangedEntry → ℕ) where
   pairs : AllPaired s covers (units s.units) kept
   pairs = all_paired s covers (units s.units) kept seen
 
   -- The origin of a kept entry.
-  entry_origin : (r : RangedEntry) → Contains kept r → HasOrigin ranges_kind HasHigh (units s.units) (named_of r)
+  entry_origin : (r : RangedEntry) → Contains kept r → HasOrigin ranges_kind HasHigh (units s.units) (named_by number r)
   entry_origin r there =
       let y = kept_from s covers (units s.units) kept r pairs there in
       record {
@@ -75,6 +75,6 @@ module _ (s : ListSections) (free : IsFree (HasDwarfFault (range_places s))) (co
       by_high_address u e uc ec some (Some h) is = NeedsTable.has_entry e ec (record { a = h; is = is })
       by_high_address u e uc ec some None is = by_list u e uc ec some is (attr 0x55 e) refl
 
-  pub origin : (n : NamedList) → Contains (map named_of kept) n → HasOrigin ranges_kind HasHigh (units s.units) n
+  pub origin : (n : NamedList) → Contains (map (named_by number) kept) n → HasOrigin ranges_kind HasHigh (units s.units) n
   origin n c =
-      let q = map_contains kept n c in subst (HasOrigin ranges_kind HasHigh (units s.units)) q.2 (entry_origin q.0 q.1)
+      let q = map_contains number kept n c in subst (HasOrigin ranges_kind HasHigh (units s.units)) q.2 (entry_origin q.0 q.1)

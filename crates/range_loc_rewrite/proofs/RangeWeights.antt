@@ -1,7 +1,7 @@
 -- The weight of ranges, by the runs of the groups of entries.
 use Rattle.std.proofs.Common.{◌≡◌, ◌∙◌, ◌+◌, ◌*◌, ◌<◌, ◌++◌, ◌∷◌, [], ℕ, Bool, true, false, List, Option, Some, None, refl, sym, ap}
 use Rattle.std.proofs.Common.{subst, arith, length, map, ⊎_elim, ◌-◌, ◌^◌}
-use Rattle.std.specs.Prelude.{if◌then◌else◌, flat_map, option_and_then, sum_by, Contains, min}
+use Rattle.std.specs.Prelude.{if◌then◌else◌, flat_map, is_some, option_and_then, sum_by, Contains, min}
 use Rattle.std.specs.Global.{Vec}
 use Rattle.std.specs.List.{list_any}
 use Rattle.std.specs.Option.{option_map_or}
@@ -22,7 +22,7 @@ use Rattle.cover_lists.specs.declared.cover_index.CoverIndex.{CoverIndex}
 use Rattle.cover_lists.specs.declared.groups.RangedEntry.{RangedEntry}
 use Rattle.dw_lists.specs.declared.indexed_unit.IndexedUnit.{IndexedUnit}
 use Rattle.dw_lists.specs.Faults.{ListSections}
-use Rattle.list_units.specs.Gathering.{SeenEntry, seen_of, seen_in, seen_kept, ranges_index}
+use Rattle.list_units.specs.Gathering.{SeenEntry, seen_as, seen_in, seen_kept}
 use Rattle.cover_lists.specs.GroupRuns.{runs_in, held_by, if_held}
 use Rattle.cover_lists.specs.Groups.{AreWithin, group_holds}
 use Rattle.range_loc_rewrite.specs.KeptRanges.{AreKept}
@@ -31,7 +31,6 @@ use Rattle.dw_lists.specs.Lists.{Kind, ranges_kind}
 use Rattle.list_units.specs.RangeReading.{all_seen}
 use Rattle.dw_lists.specs.Ranges.{Ranged, ranged_from, ranged_in, ranged, ranges_of}
 use Rattle.cover_lists.specs.Located.{hold}
-use Rattle.dw_lists.specs.UnitLists.{own_place}
 use Rattle.dw_lists.specs.Weights.{IsRangesWeight, covered_by, index_weight, index_weights}
 use Rattle.dw_lists.proofs.IndexWeights.{all_weights}
 use Rattle.cover_lists.specs.ListWeights.{IsSumOf}
@@ -46,17 +45,17 @@ abbrev own_held : ℕ → Ranged → List Bool
 own_held a r = held_of r.own a
 
 module _ (s : ListSections) (a : ℕ) where
-  one_held : (place own : ℕ) (index : Option ℕ) (ranges : Option (List Range)) →
-      map (λ (x : SeenEntry). x.held) (seen_of place own index ranges a) ≡ held_of ranges a
-  one_held place own index None = refl
-  one_held place own index (Some ranges) = refl
+  one_held : (u : Unit) (e : Entry) (ranges : Option (List Range)) →
+      map (λ (x : SeenEntry). x.held) (seen_as s u e ranges a) ≡ held_of ranges a
+  one_held u e None = refl
+  one_held u e (Some ranges) = refl
 
   unit_held : (u : Unit) (before es : List Entry) → map (λ (x : SeenEntry). x.held) (seen_in s u es a) ≡ flat_map (own_held a)
       (ranged_from (ranges_of s u) before es)
   unit_held u before [] = refl
   unit_held u before (e ∷ es) =
-      map-append (λ (x : SeenEntry). x.held) (seen_of e.place (own_place u) (ranges_index e.attrs) (ranges_of s u e) a) (seen_in s u es a)
-      ∙ (λ i. one_held e.place (own_place u) (ranges_index e.attrs) (ranges_of s u e) i ++ unit_held u (e ∷ before) es i)
+      map-append (λ (x : SeenEntry). x.held) (seen_as s u e (ranges_of s u e) a) (seen_in s u es a)
+      ∙ (λ i. one_held u e (ranges_of s u e) i ++ unit_held u (e ∷ before) es i)
 
   flat_append : (xs ys : List Ranged) → flat_map (own_held a) (xs ++ ys) ≡ flat_map (own_held a) xs ++ flat_map (own_held a) ys
   flat_append [] ys = refl
@@ -180,6 +179,10 @@ holds_some covers g o = option_map_or (group_holds covers g) o false
 group_says : (covers : List Cover) (g : ℕ) (o : Option ℕ) → option_and_then (held_by covers g) o ≡ if_held (holds_some covers g o)
 group_says covers g None = refl
 group_says covers g (Some a) = refl
+
+pub some_if : (b : Bool) → is_some (if_held b) ≡ b
+some_if true = refl
+some_if false = refl
 
 pub within_there : (n : ℕ) (xs : List RangedEntry) (r : RangedEntry) → AreWithin n xs → Contains xs r → r.group < n
 within_there n [] r w c = absurd (Contains-nil r c)

@@ -1,8 +1,7 @@
 -- In each file with the written tables, entries cover the new code as they covered the old, and no list is bad.
 use Rattle.std.proofs.Common.{◌≡◌, ◌∙◌, ◌==◌, ◌&&◌, ◌++◌, ◌∷◌, [], ℕ, Bool, true, false, List, Option, Some, None, refl, sym, ap}
 use Rattle.std.proofs.Common.{subst, arith, map, filter, All}
-use Rattle.std.specs.Prelude.{flat_map, Contains, option_map, option_and_then, if◌then◌else◌, IsSome, not, filter_map}
-use Rattle.std.specs.Global.{Vec}
+use Rattle.std.specs.Prelude.{flat_map, Contains, option_map, option_and_then, if◌then◌else◌, IsSome, is_some, not, filter_map}
 use Rattle.std.specs.List.{find, AllZip}
 use Rattle.std.specs.Option.{option_map_or}
 use Rattle.std.proofs.lemmas.Bool.{eqb-true}
@@ -32,7 +31,6 @@ use Rattle.cover_lists.specs.declared.groups.RangedEntry.{RangedEntry}
 use Rattle.dw_lists.specs.declared.list_kind.ListKind.TheVariants as kind
 use Rattle.dw_lists.specs.Faults.{ListSections, range_places, is_list_table}
 use Rattle.list_units.specs.Gathering.{seen_kept}
-use Rattle.cover_lists.specs.GroupRuns.{runs_in, if_held}
 use Rattle.list_writer.specs.ListBytes.{IsWritable}
 use Rattle.list_units.specs.RangeReading.{all_seen}
 use Rattle.dw_lists.specs.Ranges.{Ranged, ranged_from, ranged_in, ranges_of, covering}
@@ -116,15 +114,15 @@ given_by names lists named e attr o f =
     let q = find_member e attr names o f in
     (λ i. new_list_offset lists (sym q.2 i) (sym q.3 i)) ∙ named q.0 q.1 ∙ ap (λ (n : ℕ). Some n) q.4
 
-module _ (s t : ListSections) (spans : List Span) (covers : List Cover) (kept : List RangedEntry) (lists : List (Vec (Run Bool)))
+module _ (s t : ListSections) (spans : List Span) (covers : List Cover) (kept : List RangedEntry) (order : RangedEntry → List (Run Bool))
     (bytes : List ℕ) (names : List ListAt) (m : Moves)
     (free : IsFree (HasDwarfFault (range_places s))) (seen : (a : ℕ) → seen_kept covers kept a ≡ all_seen s a)
-    (w : AreNamed lists kept bytes names) (table : t.ranges ≡ bytes) (free_units : IsFree (HasDwarfFault (unit_fault_places t.units)))
+    (w : AreNamed order kept bytes names) (table : t.ranges ≡ bytes) (free_units : IsFree (HasDwarfFault (unit_fault_places t.units)))
     (changed : AreChangedUnits s.units m t.units)
     (named : (l : ListAt) → Contains names l → new_list_offset m.lists l.entry l.attr ≡ Some l.offset)
-    (says : (r : RangedEntry) → Contains kept r → (p : ℕ) → run_at (runs_in lists r.group) p ≡ if_held
-    (holds_some covers r.group (owner spans p)))
-    (writable : (r : RangedEntry) → Contains kept r → All (IsWritable kind.Ranges) (map bounded (runs_in lists r.group))) where
+    (says : (r : RangedEntry) → Contains kept r → (p : ℕ) → is_some (run_at (order r) p)
+    ≡ holds_some covers r.group (owner spans p))
+    (writable : (r : RangedEntry) → Contains kept r → All (IsWritable kind.Ranges) (map bounded (order r))) where
   ranges_are : t.ranges ≡ units_bytes w.tables
   ranges_are = table ∙ w.bytes_are
 
@@ -138,7 +136,7 @@ module _ (s t : ListSections) (spans : List Span) (covers : List Cover) (kept : 
       u.entries v.entries c.entries
       (λ d e dc ec x. (
         x.place,
-        stays s t w.tables w.units ranges_are spans covers kept lists names m (given_by names m.lists named) w.each says writable
+        stays s t w.tables w.units ranges_are spans covers kept order names m (given_by names m.lists named) w.each says writable
             (units s.units)
             (all_paired s covers (units s.units) kept seen) (all_sound s.units free_old) (places_ascend s.units free_old)
             (lists_fine s free) u v uc c.entries d e dc x

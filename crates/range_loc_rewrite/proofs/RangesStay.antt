@@ -2,7 +2,6 @@
 use Rattle.std.proofs.Common.{◌≡◌, ◌∙◌, ◌+◌, ◌*◌, ◌<◌, ◌==◌, ◌&&◌, ◌||◌, ◌∷◌, [], ℕ, Bool, true, false, not, List, Option, Some, None}
 use Rattle.std.proofs.Common.{refl, sym, ap, subst, arith, length, map, All, ⊎_elim}
 use Rattle.std.specs.Prelude.{Contains, option_and_then, option_map, if◌then◌else◌, is_some, nat_lt, unwrap_or}
-use Rattle.std.specs.Global.{Vec}
 use Rattle.std.specs.List.{find, list_all}
 use Rattle.std.proofs.lemmas.Bool.{eqb-true}
 use Rattle.std.proofs.lemmas.Bool.Decides.{nat_tests}
@@ -20,14 +19,12 @@ use Rattle.dw_unit.specs.Faults.{is_sound_attr, is_located, implies}
 use Rattle.dw_unit.proofs.SoundEntries.{IsSoundEntry}
 use Rattle.dw_lists.specs.declared.list_kind.ListKind.TheVariants as kind
 use Rattle.dw_lists.specs.Faults.{ListSections}
-use Rattle.cover_lists.specs.GroupRuns.{runs_in}
 use Rattle.cover_lists.specs.Located.{ranges_in, Located, hold}
 use Rattle.list_writer.specs.ListBytes.{IsWritable, located_at}
 use Rattle.dw_lists.specs.Lists.{Kind, ranges_kind, has_list, list_offset, list_at, only_within, offset_of_index}
 use Rattle.dw_lists.specs.Ranges.{ranges_of}
-use Rattle.list_writer.specs.WrittenRanges.{bounded}
+use Rattle.list_writer.specs.WrittenRanges.{bounded, runs_bytes}
 use Rattle.list_writer.specs.WrittenTables.{StandsAt}
-use Rattle.range_loc_rewrite.proofs.NamedRanges.{group_list}
 use Rattle.range_loc_rewrite.proofs.ChangedAttrs.{named, changed}
 use Rattle.list_writer.proofs.HeldRuns.{ranges_hold}
 use Rattle.range_loc_rewrite.proofs.KeptLookups.{no_bounds}
@@ -75,23 +72,22 @@ found_there k (x ∷ xs) a e = step (x.name == k) e (λ e. found_there k xs a e)
 module _ (t : ListSections) (v : Unit) (e : Entry) (tables : List (List ℕ)) (units : All (IsUnit 5) tables)
     (ranges_are : t.ranges ≡ units_bytes tables)
     (none : attr 0x12 e ≡ None) (sound : IsSoundEntry t.units.addr v e) (a : Attr) (is : attr 0x55 e ≡ Some a) (at : ℕ)
-    (offset : list_offset ranges_kind t.ranges v a ≡ Some at) (lists : List (Vec (Run Bool))) (g : ℕ)
-    (stands : StandsAt tables at (group_list lists g))
-    (writable : All (IsWritable kind.Ranges) (map bounded (runs_in lists g))) where
+    (offset : list_offset ranges_kind t.ranges v a ≡ Some at) (runs : List (Run Bool))
+    (stands : StandsAt tables at (runs_bytes runs)) (writable : All (IsWritable kind.Ranges) (map bounded runs)) where
   abbrev said : List Located
-  said = map located_at (map bounded (runs_in lists g))
+  said = map located_at (map bounded runs)
 
   listed : list_at ranges_kind t.ranges t.units.addr v at ≡ Some said
   listed =
       ap (λ (l : List ℕ). list_at ranges_kind l t.units.addr v at) ranges_are
-      ∙ list_there kind.Ranges tables at (map bounded (runs_in lists g)) stands units writable t.units.addr v
+      ∙ list_there kind.Ranges tables at (map bounded runs) stands units writable t.units.addr v
 
   ranges_by : ranges_of t v e ≡ Some (ranges_in said)
   ranges_by =
       no_bounds t v e none ∙ ap (listed_ranges t v) is ∙ of_offset t v a (Some at) offset ∙ ap (option_map ranges_in) listed
 
-  pub held_by : (p : ℕ) → hold (ranges_of t v e) p ≡ is_some (run_at (runs_in lists g) p)
-  held_by p = ap (λ (o : Option (List Range)). hold o p) ranges_by ∙ ranges_hold (runs_in lists g) p
+  pub held_by : (p : ℕ) → hold (ranges_of t v e) p ≡ is_some (run_at runs p)
+  held_by p = ap (λ (o : Option (List Range)). hold o p) ranges_by ∙ ranges_hold runs p
 
   -- It is the only attribute that refers to ranges.
   only : (x : Attr) → Contains e.attrs x → has_list ranges_kind x ≡ true → a ≡ x

@@ -23,7 +23,7 @@ use Rattle.dw_lists.specs.IndexedUnits.{indexed_units}
 
 -- An attribute's entry, with the group of its nearest ranges.
 abbrev pub ranged_of : LocatedAttr → RangedEntry
-ranged_of l = record { place = l.place; group = l.group; own = 0; index = None }
+ranged_of l = record { place = l.place; group = l.group; own = 0; index = None; entry = None; first = None }
 
 -- The answer of the attribute with a number.
 abbrev pub said_by_number : Locations → ℕ → ℕ → List PlaceSaid

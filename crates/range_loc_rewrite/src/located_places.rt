@@ -126,6 +126,8 @@ pub fn ranged_of(alloc: Global, located: &[LocatedAttr]) -> Result<Vec<RangedEnt
             group: attr.group,
             own: 0,
             index: None,
+            entry: None,
+            first: None,
         })?;
     }
     Ok(ranged)

@@ -9,7 +9,7 @@ use Rattle.cover_lists.proofs.MemberLists.{members_more}
 use Rattle.cover_lists.proofs.cover_index.members_of.Goals as goal
 
 abbrev nobody : RangedEntry
-nobody = record { place = 0; group = 0; own = 0; index = None }
+nobody = record { place = 0; group = 0; own = 0; index = None; entry = None; first = None }
 
 pub loop-number-preserved : goal.loop-number-preserved
 loop-number-preserved c =

@@ -31,14 +31,16 @@ returns-in-Some c = λ s u e same b r n k.
     ap (λ (l : List ℕ). bounds_of l u e) (sym r.section) ∙ sym (c.bounds.ensures u e r.addresses same)
     ∙ ap (option_map range_of) c.in-Some.is in
     let ls : List Located = record { range = Some (range_of c.in-Some.bounds); expression = [] } ∷ [] in
-    let grow = group_added c.args.groups.now c.keep_group.new.groups ls n c.in_ok-group.ensures.count c.in_ok-group.ensures.covers in (
+    let grow = group_added c.args.groups.now c.keep_group.new.groups ls n c.in_ok-group.ensures.count c.in_ok-group.ensures.covers
+    c.in_ok-group.ensures.firsts in (
       grow,
       still_known (range_list s u) c.args.groups.now c.keep_group.new.groups c.args.known.now grow k,
       subst (λ (o : Option (List Range)). HasRanges c.keep_group.new.groups (Some c.in_ok-group.group) o) (sym (own_bounds s u e (range_of
           c.in-Some.bounds) bounds))
           (subst (λ (m : ℕ). HasRanges c.keep_group.new.groups (Some m) (Some (range_of c.in-Some.bounds ∷ []))) (sym
           c.in_ok-group.ensures.number)
-          (group_has c.args.groups.now c.keep_group.new.groups ls n c.in_ok-group.ensures.count c.in_ok-group.ensures.covers)),
+          (group_has c.args.groups.now c.keep_group.new.groups ls n c.in_ok-group.ensures.count c.in_ok-group.ensures.covers
+          c.in_ok-group.ensures.firsts)),
     )
 
 pub returns-in_default-attr_named : goal.returns-in_default-attr_named

@@ -14,3 +14,4 @@ returns-in_ok-group-in-Some c = λ s u b r n.
     (ap (λ (l : List Place). Some (map located_of l)) c.deref.ensures.value
     ∙ ap (option_map (λ (v : Vec Place). map located_of v.items)) (sym c.in-Some.is) ∙ c.in_ok-places.ensures s.units.addr u r) n
     c.in_ok-group-in-Some.ensures.number c.in_ok-group-in-Some.ensures.count c.in_ok-group-in-Some.ensures.covers
+    c.in_ok-group-in-Some.ensures.firsts

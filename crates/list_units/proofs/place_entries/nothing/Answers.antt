@@ -12,20 +12,22 @@ use Rattle.list_units.proofs.place_entries.nothing.Goals as goal
 
 pub returns : goal.returns
 returns c = λ s. record {
-  numbered = subst (λ (cs : List Cover). All (λ (x : Cover). x.group < 0) cs) (sym c.new.ensures.items)
-      (All-nil (λ (x : Cover). x.group < 0));
+  numbered = (
+    subst (λ (cs : List Cover). All (λ (x : Cover). x.group < 0) cs) (sym c.new.ensures.items) (All-nil (λ (x : Cover). x.group < 0)),
+    ap length c.new-2.ensures.items,
+  );
   form = refl;
   high = refl;
   unformed_are = refl;
   bad = refl;
   gathered = λ _. record {
-    held = subst (λ (ls : List LocatedAttr). All (IsHeld 0 (length c.new-2.result.items)) ls) (sym c.new-3.ensures.items)
-        (All-nil (IsHeld 0 (length c.new-2.result.items)));
-    says = λ a. ap (λ (ls : List LocatedAttr). all_located c.new.result.items c.new-2.result.items ls a) c.new-3.ensures.items;
+    held = subst (λ (ls : List LocatedAttr). All (IsHeld 0 (length c.new-3.result.items)) ls) (sym c.new-4.ensures.items)
+        (All-nil (IsHeld 0 (length c.new-3.result.items)));
+    says = λ a. ap (λ (ls : List LocatedAttr). all_located c.new.result.items c.new-3.result.items ls a) c.new-4.ensures.items;
     ranges = refl;
     locations = refl;
-    listed = ap all_say c.new-2.ensures.items;
-    names = subst (λ (ns : List NamedList). AllZip (IsNameOf c.new-2.result.items) ns []) (sym c.new-4.ensures.items) tt;
-    indexes = c.new-5.ensures.items;
+    listed = ap all_say c.new-3.ensures.items;
+    names = subst (λ (ns : List NamedList). AllZip (IsNameOf c.new-3.result.items) ns []) (sym c.new-5.ensures.items) tt;
+    indexes = c.new-6.ensures.items;
   };
 }

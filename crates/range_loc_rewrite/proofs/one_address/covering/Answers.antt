@@ -7,7 +7,7 @@ use Rattle.range_loc_rewrite.specs.OneAddress.{place_if}
 use Rattle.range_loc_rewrite.proofs.one_address.covering.Goals as goal
 
 abbrev nobody : RangedEntry
-nobody = record { place = 0; group = 0; own = 0; index = None }
+nobody = record { place = 0; group = 0; own = 0; index = None; entry = None; first = None }
 
 pub loop-entry-preserved : goal.loop-entry-preserved
 loop-entry-preserved c =
