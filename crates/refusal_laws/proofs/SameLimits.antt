@@ -168,10 +168,7 @@ module _ (e e' : Elf) (alike : Alike e e') where
 
   module _ (fs gs : List Func) (same : map view fs ≡ map view gs) where
     around : (a : ℕ) → start_around fs a ≡ start_around gs a
-    around a =
-        starts_found fs
-        ∙ ap (option_map (λ (v : View). v.0)) (same_found view fs gs same (λ v. nat_le v.0 a && nat_lt a v.1))
-        ∙ sym (starts_found gs)
+    around a = starts_found fs ∙ ap (option_map (λ (v : View). v.0)) (same_found view fs gs same (λ v. nat_le v.0 a && nat_lt a v.1)) ∙ sym (starts_found gs)
       where
         starts_found : (hs : List Func) → start_around hs a
             ≡ option_map (λ (v : View). v.0) (option_map view (find (λ f. nat_le f.start a && nat_lt a f.end) hs))

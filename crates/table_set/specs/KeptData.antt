@@ -14,7 +14,9 @@ use Rattle.dw_unit.specs.EntryMoves.{new_list_offset}
 use Rattle.dw_unit.specs.Tables.{AreChangedWith, sections_of}
 use Rattle.line_rewrite.specs.KeptLineUnits.{AreKeptUnits, unit_number, unit_places}
 use Rattle.line_rewrite.specs.Tables.{line_sections}
+use Rattle.range_loc_rewrite.specs.EnteredFirst.{AreEnteredFirst}
 use Rattle.range_loc_rewrite.specs.NewOffsets.{RangesGetOffsets, PlacesGetOffsets}
+use Rattle.range_loc_rewrite.specs.Tables.{list_sections}
 
 -- The new offset of a line unit; without one, an offset that means no unit.
 abbrev pub new_line_offset : List ListAt → ℕ → ℕ
@@ -34,6 +36,8 @@ pub record AreUnitsKept (spans : List Span) (lists : List ListAt) (i f : Elf) : 
   -- Attributes of entries find their lists in the new tables.
   pub range_offsets : RangesGetOffsets (sections_of i) (bytes_of i (codes ".debug_rnglists")) lists
       (bytes_of f (codes ".debug_rnglists"))
+  -- The range at which an entry is entered comes first in its list.
+  pub entries_first : AreEnteredFirst spans (list_sections i) lists (bytes_of f (codes ".debug_rnglists"))
   pub place_offsets : PlacesGetOffsets (sections_of i) (bytes_of i (codes ".debug_loclists")) lists
       (bytes_of f (codes ".debug_loclists"))
 
