@@ -1,5 +1,5 @@
 -- A file that was made is laid out as it has to be, by what is read of it.
-use Rattle.std.proofs.Common.{◌≡◌, ◌∙◌, sym, ap, subst, refl, ℕ, zero, suc, ◌+◌, ◌*◌, ◌<◌, List}
+use Rattle.std.proofs.Common.{◌≡◌, ◌∙◌, sym, ap, subst, refl, ℕ, zero, suc, ◌+◌, ◌*◌, ◌≤◌, ◌<◌, List}
 use Rattle.std.proofs.Common.{◌++◌, Option, Some, None, Bool, true, false, String, Vec, length, map, min, take, get_or}
 use Rattle.std.proofs.Common.{slice_get, arith}
 use Rattle.std.specs.Prelude.{All, Contains, ◌||◌, if◌then◌else◌}
@@ -29,7 +29,7 @@ use Rattle.elf_make.proofs.CellPieces.{CanHoldPiece}
 use Rattle.elf_make.proofs.HeaderKept.{fields-kept}
 use Rattle.elf_make.proofs.MadeHeaders.{e_phoff-written, e_shoff-written, length-written}
 use Rattle.elf_make.proofs.PlannedOrder.{listed-within}
-use Rattle.elf_make.proofs.SectionsRead.{no_header, section-read, sections-count}
+use Rattle.elf_make.proofs.SectionsRead.{ends-above, no_header, section-read, sections-count}
 use Rattle.elf_make.proofs.StandingOrder.{stand-from}
 
 -- Where the loaded bytes end, and the places of the table of program headers and of the contents of sections.
@@ -106,17 +106,17 @@ module _ {Y Z : Type 0} (s : Source) (tight : Bool) (w : List ℕ) (read : IsElf
   abbrev adds : Bool
   adds = adds_ranges s.elf.sections.items tables
 
-  abbrev indices : List ℕ
+  abbrev pub indices : List ℕ
   indices = map (λ (e : ℕ × ℕ). e.1) has.order ++ added_ranges adds (length has.put.set)
 
-  abbrev bytes : ℕ → List ℕ
+  abbrev pub bytes : ℕ → List ℕ
   bytes = bytes_at has.put.new s.elf has.contents
 
   abbrev start : ℕ
   start = start_after s.elf made.layout.area made.layout.shift (base s tight w made)
 
   -- as many as there were before their contents had places
-  counted : length new.sections.items ≡ length has.put.set
+  pub counted : length new.sections.items ≡ length has.put.set
   counted =
       sections-count s tight w read sound made can tables has.contents has.order has.headers has.put has.count new new_read
       ∙ has.put.count ∙ has.put.are_placed.count
@@ -146,10 +146,11 @@ module _ {Y Z : Type 0} (s : Source) (tight : Bool) (w : List ℕ) (read : IsElf
     abbrev old : SectionHeader
     old = get_or has.put.set i no_header
 
-    found : (end : ℕ) × IsPlaced (base s tight w made) end (bytes i) has.put.front old now
+    pub found : (end : ℕ) × (start ≤ end) × IsPlaced (base s tight w made) end (bytes i) has.put.front old now
     found =
         let (j, below, is) = contained-at indices i there in (
           ends_behind bytes has.put.set no_header start (take j indices),
+          ends-above bytes has.put.set no_header start (take j indices),
           subst
               (λ (k : ℕ). IsPlaced (base s tight w made) (ends_behind bytes has.put.set no_header start (take j indices)) (bytes k)
               has.put.front (get_or has.put.set k no_header) (get_or has.put.placed k no_header))
@@ -159,10 +160,10 @@ module _ {Y Z : Type 0} (s : Source) (tight : Bool) (w : List ℕ) (read : IsElf
     -- its offset isn't capped
     uncapped : min now.offset (base s tight w made + length made.tail) ≡ now.offset
     uncapped =
-        let within = (has.put.keeps _ _ found.1.stands).within in
+        let within = (has.put.keeps _ _ found.2.stands).within in
         omega (arith, within)
 
-    says : (n.offset ≡ now.offset) × (n.size ≡ now.size) × (n.align ≡ old.align)
+    pub says : (n.offset ≡ now.offset) × (n.size ≡ now.size) × (n.align ≡ old.align)
     says =
         let inside = slice_get_within new.sections.items i n at_n in
         let count = counted in
@@ -172,7 +173,7 @@ module _ {Y Z : Type 0} (s : Source) (tight : Bool) (w : List ℕ) (read : IsElf
         new_read i n no_header at_n in (
           said.offset ∙ ap (λ (h : SectionHeader). h.offset) is ∙ uncapped,
           said.size ∙ ap (λ (h : SectionHeader). h.size) is,
-          said.align ∙ ap (λ (h : SectionHeader). h.align) is ∙ ap (λ (h : SectionHeader). h.align) found.1.same,
+          said.align ∙ ap (λ (h : SectionHeader). h.align) is ∙ ap (λ (h : SectionHeader). h.align) found.2.same,
         )
 
   abbrev end : ℕ

@@ -1,3 +1,4 @@
+pub mod AddedByIndex
 pub mod AllWritten
 pub mod BehindWritten
 pub mod BesideWritten
@@ -13,12 +14,15 @@ pub mod FileEnds
 pub mod FromMade
 pub mod FrontWritten
 pub mod Growing
+pub mod GrownNames
 pub mod HeaderKept
 pub mod HeadersRead
+pub mod HeadersSet
 pub mod HeldNumbers
 pub mod HiddenBytes
 pub mod ImageWritten
 pub mod Images
+pub mod InArea
 pub mod LaidOut
 pub mod LayoutRead
 pub mod LeftBytes
@@ -27,11 +31,15 @@ pub mod Loads
 pub mod MadeHeaders
 pub mod MadeInput
 pub mod MadeSegments
+pub mod NamesRead
 pub mod PiecesWritten
 pub mod PlacedContents
 pub mod PlacesWritten
 pub mod PlannedOrder
 pub mod SameBreak
+pub mod SectionsFollow
+pub mod SectionsMade
+pub mod SectionsNamed
 pub mod SectionsRead
 pub mod SoundFiles
 pub mod StandingOrder

@@ -67,7 +67,8 @@ pub record SaysHeader (h : SectionHeader) (n : Section) : Type 0 where
 module _ {Y Z : Type 0} (s : Source) (tight : Bool) (w : List ℕ) (read : IsElfOf s.elf.file.now s.elf)
     (sound : IsSound s.elf.file.now) (made : IsMade s tight w) (can : All (CanHoldPiece s.elf) s.cells)
     (tables : List (String Y × Vec ℕ Z)) (contents : List Contents) (order : List (ℕ × ℕ)) (headers : List SectionHeader)
-    (put : ArePut s.elf tables contents order (base s tight w read sound made) (start s tight w read sound made) made.tail
+    (put : ArePut s.elf tables made.layout.area made.layout.shift contents order (base s tight w read sound made)
+    (start s tight w read sound made) made.tail
     made.fields.section_headers_at headers) (count : made.fields.sections ≡ length headers) where
   abbrev at : ℕ
   at = made.fields.section_headers_at

@@ -8,5 +8,6 @@ pub mod NamesAdded
 pub mod PartPlaces
 pub mod PlacedContents
 pub mod SectionTable
+pub mod SetHeaders
 pub mod Source
 pub mod WrittenFile

@@ -1,10 +1,12 @@
 -- The sections of a file that was made, and its program headers in all fields.
-use Rattle.std.specs.Prelude.{◌≡◌, ℕ, ◌+◌, List, Bool, String, Vec, codes, length, map, unwrap_or}
+use Rattle.std.specs.Prelude.{◌≡◌, ℕ, ◌+◌, List, Bool, false, String, Vec, codes, length, map, unwrap_or}
 use Rattle.elf_image.specs.declared.section.SectionHeader.{SectionHeader}
+use Rattle.elf_image.specs.file.Header.{e_shstrndx}
 use Rattle.elf_parts.specs.Parts.{size_of}
 use Rattle.elf_plan.specs.declared.sections.Contents.{Contents}
-use Rattle.elf_plan.specs.Contents.{contents_of}
+use Rattle.elf_plan.specs.Contents.{contents_of, is_at}
 use Rattle.elf_plan.specs.HeaderPlaces.{ArePlaced, Outline}
+use Rattle.elf_plan.specs.NameTables.{place_of_symbols}
 use Rattle.elf_plan.specs.Plans.{Arranges}
 use Rattle.elf_plan.specs.TableSizes.{table_size}
 use Rattle.elf_make.specs.FileParts.{IsMade, start_after}
@@ -28,10 +30,12 @@ pub record HasSections {Y Z : Type 0} (s : Source) (tables : List (String Y × V
   pub contents : List Contents
   pub order : List (ℕ × ℕ)
   pub arranged : Arranges s.elf tables made.layout.area made.layout.shift contents order
+  -- the symbol table doesn't have the names of sections
+  pub apart : is_at (e_shstrndx s.elf.file.now) (place_of_symbols s.elf) ≡ false
   -- all section headers
   pub headers : List SectionHeader
   pub count : made.fields.sections ≡ length headers
-  pub put : ArePut s.elf tables contents order (size_of made.layout.parts)
+  pub put : ArePut s.elf tables made.layout.area made.layout.shift contents order (size_of made.layout.parts)
       (start_after s.elf made.layout.area made.layout.shift (size_of made.layout.parts)) made.tail
       made.fields.section_headers_at headers
   -- the program headers

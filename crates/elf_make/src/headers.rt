@@ -1,7 +1,11 @@
 // The section headers of a written file, and the contents after its loaded bytes. gABI, "Section Header".
 ghost use Rattle.std.specs.Prelude.{◌≡◌, ◌≢◌, ◌+◌, ◌-◌, ◌<◌, ◌≤◌, ◌++◌, ℕ, List, All, AllPairs, IfOk, OnOk};
-ghost use Rattle.std.specs.Prelude.{length, map, slice_index_or};
+ghost use Rattle.std.specs.Prelude.{Some, codes, false, length, map, slice_get, slice_index_or};
+ghost use Rattle.elf_image.specs.declared.section.Section.{Section};
 ghost use Rattle.elf_image.specs.declared.section.SectionHeader.{SectionHeader};
+ghost use Rattle.elf_image.specs.file.Sections.{section_header};
+ghost use Rattle.elf_plan.specs.Area.{area_offset};
+ghost use Rattle.elf_make.specs.SetHeaders.{Adds, AddsAt, AreAdded, IsNamed, IsRenamed, Keeps};
 ghost use Rattle.elf_parts.specs.Patches.{Stands};
 ghost use Rattle.elf_make.specs.PlacedContents.{ArePlaced, IsPlaced, bytes_at, set_header};
 ghost use Rattle.elf_image.specs.faults.Truncation.{IsReadable};
@@ -49,6 +53,36 @@ pub struct NewContents<'a> {
     pub ranges: &'a [u8],
 }
 
+// The offset of the name of `section`: `old`, or that of its new name, which is added to `names`, if it is renamed.
+fn name_of(section: &Section, old: u32, names: &mut NameTable) -> Result<u32, Unwritable>
+    ensures named { IfOk result (λ at. IsNamed names.new.bytes.items section.now old at) }
+    ensures keeps { IfOk result (λ at. Keeps names.old.bytes.items names.new.bytes.items) }
+{
+    if !is_renamed(section) {
+        return Ok(old);
+    }
+    let at = names.add(old_prefix(section.name), section.name)?;
+    Ok(at)
+}
+
+// The header of the section at `index` in the input, with its new name, which is added to `names`, if it is renamed.
+fn header_of(elf: &Elf, index: usize, names: &mut NameTable) -> Result<SectionHeader, Unwritable>
+    requires readable { IsReadable elf.now.file.now }
+    requires index { index < e_shnum elf.now.file.now }
+    ensures renamed { IfOk result (λ header. (s : Section) → slice_get elf.now.sections.items index ≡ Some s →
+        IsRenamed names.new.bytes.items s (section_header elf.now.file.now index) header) }
+    ensures keeps { IfOk result (λ header. Keeps names.old.bytes.items names.new.bytes.items) }
+{
+    let mut header = SectionTable { file: elf.file }.section_of(index);
+    match elf.sections.get(index) {
+        Some(section) => {
+            header.name = name_of(section, header.name, names)?;
+            Ok(header)
+        }
+        None => Ok(header),
+    }
+}
+
 /// The headers of the input's sections, with new names, which are added to `names`, if sections are renamed.
 pub fn old_headers(
     alloc: Global,
@@ -56,43 +90,88 @@ pub fn old_headers(
     names: &mut NameTable,
 ) -> Result<Vec<SectionHeader>, Unwritable>
     requires { IsReadable elf.now.file.now }
-    ensures { IfOk result (λ headers. length headers.items ≡ e_shnum elf.now.file.now) }
+    ensures count { IfOk result (λ headers. length headers.items ≡ e_shnum elf.now.file.now) }
+    ensures each { IfOk result (λ headers. (k : ℕ) (s : Section) (d : SectionHeader) → k < e_shnum elf.now.file.now →
+        slice_get elf.now.sections.items k ≡ Some s → IsRenamed names.new.bytes.items s
+        (section_header elf.now.file.now k) (slice_index_or headers.items k d)) }
+    ensures keeps { IfOk result (λ headers. Keeps names.old.bytes.items names.new.bytes.items) }
 {
-    let table = SectionTable { file: elf.file };
+    let count = SectionTable { file: elf.file }.count();
     let mut headers = Vec::new(alloc);
-    for i in 0..table.count() {
-        let mut header = table.section_of(i);
-        if let Some(section) = elf.sections.get(i) {
-            if is_renamed(section) {
-                header.name = names.add(old_prefix(section.name), section.name)?;
-            }
-        }
-        headers.push(header)?;
+    for i in 0..count {
+        headers.push(header_of(elf, i, names)?)?;
     }
     Ok(headers)
 }
 
-// The header of a section of `size` bytes at the address `addr`, which is in the new area.
-fn area_section(
-    name: u32,
-    flags: u64,
+// Adds the header of the section `text` of `size` bytes at the address `addr`, which is in the new area.
+fn add_in_area(
+    headers: &mut Vec<SectionHeader>,
+    names: &mut NameTable,
     area: &Area,
+    text: &[u8],
+    flags: u64,
     addr: u64,
     size: u64,
     align: u64,
-) -> Result<SectionHeader, Unwritable> {
-    Ok(SectionHeader {
+) -> Result<(), Unwritable>
+    ensures adds { OnOk result (Adds names.new.bytes.items text.now flags addr (area_offset area.now addr) size align
+        headers.old.items headers.new.items) }
+    ensures keeps { OnOk result (Keeps names.old.bytes.items names.new.bytes.items) }
+{
+    let name = names.add(text, b"")?;
+    let offset = area.offset_of(addr)?;
+    headers.push(SectionHeader {
         name,
         kind: SHT_PROGBITS,
         flags,
         addr,
-        offset: area.offset_of(addr)?,
+        offset,
         size,
         link: 0,
         info: 0,
         align,
         entsize: 0,
-    })
+    })?;
+    Ok(())
+}
+
+// Adds the header of the table `text`, if the area has the address `place` for it.
+fn add_table(
+    headers: &mut Vec<SectionHeader>,
+    names: &mut NameTable,
+    area: &Area,
+    text: &[u8],
+    place: Option<u64>,
+    size: u64,
+    align: u64,
+) -> Result<(), Unwritable>
+    ensures adds { OnOk result
+        (AddsAt names.new.bytes.items text.now area.now place size align headers.old.items headers.new.items) }
+    ensures keeps { OnOk result (Keeps names.old.bytes.items names.new.bytes.items) }
+{
+    match place {
+        Some(addr) => add_in_area(headers, names, area, text, SHF_ALLOC, addr, size, align),
+        None => Ok(()),
+    }
+}
+
+// Adds the header of the section with the new code.
+fn add_text(
+    headers: &mut Vec<SectionHeader>,
+    names: &mut NameTable,
+    area: &Area,
+) -> Result<(), Unwritable>
+    ensures adds { OnOk result (Adds names.new.bytes.items (codes ".text") (SHF_ALLOC + SHF_EXECINSTR) area.now.start
+        (area_offset area.now area.now.start) (area.now.code_end - area.now.start) 16 headers.old.items
+        headers.new.items) }
+    ensures keeps { OnOk result (Keeps names.old.bytes.items names.new.bytes.items) }
+{
+    let size = area.code_end.saturating_sub(area.start);
+    let flags = SHF_ALLOC + SHF_EXECINSTR;
+    add_in_area(
+        headers, names, area, b".text", flags, area.start, size, CODE_ALIGN,
+    )
 }
 
 /// Adds the headers of the sections in the new area: the code, and the unwind table and its index if there are any.
@@ -102,22 +181,31 @@ pub fn area_headers(
     tables: &[Table],
     names: &mut NameTable,
 ) -> Result<(), Unwritable>
-    ensures { OnOk result (length headers.old.items < length headers.new.items) }
+    ensures added { OnOk result
+        (AreAdded names.new.bytes.items tables.now area.now false headers.old.items headers.new.items) }
+    ensures keeps { OnOk result (Keeps names.old.bytes.items names.new.bytes.items) }
 {
-    let code = area.code_end.saturating_sub(area.start);
-    let name = names.add(b".text", b"")?;
-    let flags = SHF_ALLOC + SHF_EXECINSTR;
-    headers.push(area_section(name, flags, area, area.start, code, CODE_ALIGN)?)?;
-    if let Some(frames) = area.frames {
-        let name = names.add(EH_FRAME, b"")?;
-        let size = table_size(tables, EH_FRAME).unwrap_or(0) as u64;
-        headers.push(area_section(name, SHF_ALLOC, area, frames, size, FRAMES_ALIGN)?)?;
-    }
-    if let Some(index) = area.index {
-        let name = names.add(EH_FRAME_HDR, b"")?;
-        let size = table_size(tables, EH_FRAME_HDR).unwrap_or(0) as u64;
-        headers.push(area_section(name, SHF_ALLOC, area, index, size, INDEX_ALIGN)?)?;
-    }
+    let frames_size = table_size(tables, EH_FRAME).unwrap_or(0) as u64;
+    let index_size = table_size(tables, EH_FRAME_HDR).unwrap_or(0) as u64;
+    add_text(headers, names, area)?;
+    add_table(
+        headers,
+        names,
+        area,
+        EH_FRAME,
+        area.frames,
+        frames_size,
+        FRAMES_ALIGN,
+    )?;
+    add_table(
+        headers,
+        names,
+        area,
+        EH_FRAME_HDR,
+        area.index,
+        index_size,
+        INDEX_ALIGN,
+    )?;
     Ok(())
 }
 

@@ -12,6 +12,7 @@ pub struct NameTable {
 
 impl NameTable {
     ghost use Rattle.std.specs.Prelude.{◌≡◌, ◌++◌, IfOk, length};
+    ghost use Rattle.elf_make.specs.SetHeaders.{Keeps};
     ghost use Rattle.elf_make.specs.NamesAdded as spec;
 
     /// A table that begins with the bytes `old`.
@@ -28,6 +29,7 @@ impl NameTable {
         ensures place { IfOk result (λ at. at ≡ length (spec.begun self.old.bytes.items)) }
         ensures bytes { IfOk result (λ at.
             self.new.bytes.items ≡ spec.begun self.old.bytes.items ++ spec.ended (front.now ++ back.now)) }
+        ensures keeps { IfOk result (λ at. Keeps self.old.bytes.items self.new.bytes.items) }
     {
         if self.bytes.is_empty() {
             self.bytes.push(0)?;

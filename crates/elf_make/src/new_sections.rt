@@ -1,12 +1,14 @@
 // The sections of a written file: their contents after its loaded bytes, and their headers after those.
-ghost use Rattle.std.specs.Prelude.{◌≡◌, ◌≢◌, ◌<◌, ◌≤◌, ◌+◌, ◌*◌, ℕ, List, All, AllPairs, IfOk, OnOk, length};
-ghost use Rattle.std.specs.Prelude.{slice_index_or};
+ghost use Rattle.std.specs.Prelude.{◌≡◌, ◌≢◌, ◌<◌, ◌≤◌, ◌+◌, ◌*◌, ◌^◌, ℕ, List, All, AllPairs, IfOk, OnOk, length};
+ghost use Rattle.std.specs.Prelude.{Some, codes, false, slice_get, slice_index_or};
 ghost use Rattle.elf_image.specs.declared.section.Section.{Section};
 ghost use Rattle.elf_image.specs.declared.section.SectionHeader.{SectionHeader};
 ghost use Rattle.elf_plan.specs.declared.sections.Contents.{Contents};
 ghost use Rattle.elf_make.specs.PlacedContents.{set_header};
+ghost use Rattle.elf_make.specs.SetHeaders.{Adds, AreAdded, AreSet, Keeps};
 ghost use Rattle.elf_make.specs.SectionTable.{AreCapped, ArePut, EndsWith};
 ghost use Rattle.elf_parts.specs.Patches.{Stands};
+ghost use Rattle.elf_plan.specs.Contents.{is_at, section_bytes};
 ghost use Rattle.elf_plan.specs.NewSections as spec;
 ghost use Rattle.rv_code.specs.layout.FunctionLists.{AreLaidOut};
 ghost use Rattle.elf_image.specs.faults.Truncation.{IsReadable};
@@ -55,7 +57,15 @@ struct NewNames {
 }
 
 impl NewNames {
-    fn new(alloc: Global, elf: &Elf, own: &OwnSections) -> Result<NewNames, Unwritable> {
+    ghost use Rattle.std.specs.Prelude.{◌≡◌, IfOk, Some, slice_get};
+    ghost use Rattle.elf_image.specs.declared.section.Section.{Section};
+    ghost use Rattle.elf_plan.specs.Contents.{section_bytes};
+
+    fn new(alloc: Global, elf: &Elf, own: &OwnSections) -> Result<NewNames, Unwritable>
+        ensures { IfOk result (λ names. (s : Section) →
+            slice_get elf.now.sections.items own.now.section_names ≡ Some s →
+            names.sections.bytes.items ≡ section_bytes elf.now.file.now s) }
+    {
         let sections = names_at(alloc, elf, own.section_names)?;
         let symbols = match own.symbol_names {
             Some(index) if index != own.section_names => Some(names_at(alloc, elf, index)?),
@@ -74,7 +84,10 @@ impl NewNames {
 }
 
 // A table of names that begins with the bytes of the section at `index`.
-fn names_at(alloc: Global, elf: &Elf, index: usize) -> Result<NameTable, Unwritable> {
+fn names_at(alloc: Global, elf: &Elf, index: usize) -> Result<NameTable, Unwritable>
+    ensures { IfOk result (λ names. (s : Section) → slice_get elf.now.sections.items index ≡ Some s →
+        names.bytes.items ≡ section_bytes elf.now.file.now s) }
+{
     let section = elf.sections.get(index).ok_or(Unwritable::Layout)?;
     Ok(NameTable::new(alloc, bytes_of(elf.file, section))?)
 }
@@ -88,10 +101,13 @@ fn adds_ranges(elf: &Elf, tables: &[Table]) -> bool
 
 // Adds the header of the table of ranges. Its place and size are set when the table is written.
 fn add_ranges(headers: &mut Vec<SectionHeader>, names: &mut NameTable) -> Result<(), Unwritable>
-    ensures { OnOk result (length headers.old.items ≤ length headers.new.items) }
+    ensures adds { OnOk result (Adds names.new.bytes.items (codes ".debug_rnglists") 0 0 0 0 1 headers.old.items
+        headers.new.items) }
+    ensures keeps { OnOk result (Keeps names.old.bytes.items names.new.bytes.items) }
 {
+    let name = names.add(DEBUG_RNGLISTS, b"")?;
     headers.push(SectionHeader {
-        name: names.add(DEBUG_RNGLISTS, b"")?,
+        name,
         kind: SHT_PROGBITS,
         flags: 0,
         addr: 0,
@@ -114,12 +130,15 @@ fn added_headers(
     adds_ranges: bool,
     names: &mut NameTable,
 ) -> Result<(), Unwritable>
-    ensures { OnOk result (length headers.old.items < length headers.new.items) }
+    ensures added { OnOk result
+        (AreAdded names.new.bytes.items tables.now area.now adds_ranges headers.old.items headers.new.items) }
+    ensures keeps { OnOk result (Keeps names.old.bytes.items names.new.bytes.items) }
 {
     area_headers(headers, area, tables, names)?;
-    if adds_ranges {
-        add_ranges(headers, names)?;
+    if !adds_ranges {
+        return Ok(());
     }
+    add_ranges(headers, names)?;
     Ok(())
 }
 
@@ -132,6 +151,7 @@ fn added_symbols(
     names: &mut NewNames,
 ) -> Result<Vec<SymbolEntry>, Unwritable>
     requires { AreLaidOut code.now.funcs.now }
+    ensures { IfOk result (λ entries. Keeps names.old.sections.bytes.items names.new.sections.bytes.items) }
 {
     if own.symbol_names.is_none() {
         return Ok(Vec::new(alloc));
@@ -153,7 +173,12 @@ fn new_symbols(
     text: u16,
 ) -> Result<Vec<u8>, Unwritable>
     requires { AreLaidOut source.now.funcs.now }
-    ensures { length headers.new ≡ length headers.old }
+    ensures count { length headers.new ≡ length headers.old }
+    ensures same { (k : ℕ) (d : SectionHeader) → slice_index_or headers.new k d
+        ≡ record (slice_index_or headers.old k d) { info = (slice_index_or headers.new k d).info } }
+    ensures others { (k : ℕ) (d : SectionHeader) → is_at k own.now.symbols ≡ false →
+        slice_index_or headers.new k d ≡ slice_index_or headers.old k d }
+    ensures keeps { IfOk result (λ bytes. Keeps names.old.sections.bytes.items names.new.sections.bytes.items) }
 {
     let Some(index) = own.symbols else {
         return Ok(Vec::new(alloc));
@@ -207,10 +232,14 @@ fn put_contents(
     requires distinct { AllPairs (λ e f. e.1 ≢ f.1) plan.now.order.items }
     requires more { length source.now.elf.now.sections.items < length headers.old }
     requires adds { adds_ranges ≡ spec.adds_ranges source.now.elf.now.sections.items source.now.tables.now }
+    requires tables { new.now.tables.now ≡ source.now.tables.now }
+    requires ranges { new.now.ranges.now ≡ spec.bytes_called source.now.tables.now (codes ".debug_rnglists") }
+    requires set { AreSet source.now.elf.now source.now.tables.now plan.now.area plan.now.shift plan.now.contents.items
+        new.now.section_names.now headers.old }
     ensures base { IfOk result (λ at. tail.new.base ≡ tail.old.base) }
     ensures count { IfOk result (λ at. length headers.new ≡ length headers.old) }
-    ensures put { IfOk result (λ at. ArePut source.now.elf.now source.now.tables.now plan.now.contents.items
-        plan.now.order.items tail.old.base (tail.old.base + length tail.old.bytes.items) tail.new.bytes.items at
+    ensures put { IfOk result (λ at. ArePut source.now.elf.now source.now.tables.now plan.now.area plan.now.shift
+        plan.now.contents.items plan.now.order.items tail.old.base (tail.old.base + length tail.old.bytes.items) tail.new.bytes.items at
         headers.new) }
 {
     check_end(source.elf, &plan.contents, &plan.order, new, tail.end()?)?;
@@ -238,12 +267,13 @@ pub fn put(
     requires readable { IsReadable source.now.elf.now.file.now }
     requires laid_out { AreLaidOut source.now.funcs.now }
     requires count { length source.now.elf.now.sections.items ≡ e_shnum source.now.elf.now.file.now }
+    requires contents { length plan.now.contents.items ≡ length source.now.elf.now.sections.items }
     requires within { All (λ e. e.1 < e_shnum source.now.elf.now.file.now) plan.now.order.items }
     requires distinct { AllPairs (λ e f. e.1 ≢ f.1) plan.now.order.items }
     ensures names { IfOk result (λ new. new.names ≡ e_shstrndx source.now.elf.now.file.now) }
     ensures base { IfOk result (λ new. tail.new.base ≡ tail.old.base) }
-    ensures put { IfOk result (λ new. ArePut source.now.elf.now source.now.tables.now plan.now.contents.items
-        plan.now.order.items tail.old.base (tail.old.base + length tail.old.bytes.items) tail.new.bytes.items
+    ensures put { IfOk result (λ new. ArePut source.now.elf.now source.now.tables.now plan.now.area plan.now.shift
+        plan.now.contents.items plan.now.order.items tail.old.base (tail.old.base + length tail.old.bytes.items) tail.new.bytes.items
         new.section_headers_at new.headers.items) }
 {
     check_sizes(source, &plan.contents)?;
@@ -320,7 +350,8 @@ fn cap_offsets(headers: &mut [SectionHeader], end: u64)
 
 // Where a table of `count` section headers ends that is at `place`.
 fn table_end(place: u64, count: usize) -> Result<u64, Unwritable>
-    ensures { IfOk result (λ end. end ≡ place + SHDR_SIZE * count) }
+    ensures end { IfOk result (λ end. end ≡ place + SHDR_SIZE * count) }
+    ensures fits { IfOk result (λ end. end < 2 ^ 64) }
 {
     let size = (count as u64).checked_mul(SHDR_SIZE as u64);
     sum(place, size.ok_or(Unwritable::Layout)?)

@@ -1,5 +1,7 @@
 // The symbol table of a written file. gABI, "Symbol Table".
+ghost use Rattle.std.specs.Prelude.{IfOk};
 ghost use Rattle.rv_code.specs.layout.FunctionLists.{AreLaidOut};
+ghost use Rattle.elf_make.specs.SetHeaders.{Keeps};
 
 use crate::names::NameTable;
 use addr_map::AddrMap;
@@ -90,6 +92,7 @@ pub fn cold_symbols(
     table: &mut NameTable,
 ) -> Result<Vec<SymbolEntry>, Unwritable>
     requires { AreLaidOut code.now.funcs.now }
+    ensures { IfOk result (λ entries. Keeps table.old.bytes.items table.new.bytes.items) }
 {
     let mut entries = Vec::new(alloc);
     for address in cold {

@@ -1,7 +1,8 @@
 -- The sections with a special use, which are known before a file is written.
-use Rattle.std.specs.Prelude.{◌≡◌}
+use Rattle.std.specs.Prelude.{◌≡◌, false}
 use Rattle.elf_image.specs.declared.elf.Elf.{Elf}
 use Rattle.elf_image.specs.file.Header.{e_shstrndx}
+use Rattle.elf_plan.specs.Contents.{is_at}
 use Rattle.elf_plan.specs.declared.name_tables.OwnSections.{OwnSections}
 use Rattle.elf_plan.specs.NameTables.{place_of_symbols, place_of_names}
 
@@ -9,3 +10,5 @@ pub record IsOwnOf (elf : Elf) (own : OwnSections) : Type 0 where
   pub names : own.section_names ≡ e_shstrndx elf.file.now
   pub symbols : own.symbols ≡ place_of_symbols elf
   pub symbol_names : own.symbol_names ≡ place_of_names elf
+  -- the symbol table doesn't have the names of sections
+  pub apart : is_at own.section_names own.symbols ≡ false

@@ -14,8 +14,7 @@ use elf_image::code_segment::executable_segment;
 use elf_image::named::{EH_FRAME, EH_FRAME_HDR};
 use std::alloc::Global;
 
-/// The decisions on a written file before it is made. The file is made from the plan, and compared with it when it is
-/// read back.
+/// The decisions on a written file before it is made. The file is made from the plan.
 #[derive(Drop)]
 pub struct Plan {
     /// The index of the executable segment's header in the input.

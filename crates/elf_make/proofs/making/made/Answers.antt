@@ -10,9 +10,10 @@ use Rattle.elf_parts.specs.Parts.{size_of}
 use Rattle.elf_plan.specs.declared.area.Area.{Area}
 use Rattle.elf_plan.specs.declared.area.Shift.{Shift}
 use Rattle.elf_plan.specs.declared.sections.Contents.{Contents}
-use Rattle.elf_plan.specs.Contents.{contents_of}
+use Rattle.elf_plan.specs.Contents.{contents_of, is_at}
 use Rattle.elf_plan.specs.HeaderPlaces.{ArePlaced, Outline}
 use Rattle.elf_plan.specs.Homes.{AreContents}
+use Rattle.elf_plan.specs.NameTables.{place_of_symbols}
 use Rattle.elf_plan.specs.Plans.{Arranges}
 use Rattle.elf_plan.specs.TableSizes.{table_size}
 use Rattle.elf_make.specs.SectionTable.{ArePut}
@@ -64,13 +65,23 @@ returns c =
     (sym c.in_ok-layout.ensures.shift) c.requires.plan.arranged) in
     let place = c.in_ok-program_headers_at.ensures in
     let start : ℕ → ℕ = start_after elf layout.area layout.shift in
-    let Put : ℕ → ℕ → ℕ → Type 0 = λ b from to. ArePut elf tables plan.contents.items plan.order.items b from tail to headers in
+    let PutIn : Area → Shift → ℕ → ℕ → ℕ → Type 0 = λ a h b from to.
+    ArePut elf tables a h plan.contents.items plan.order.items b from tail to headers in
+    let Put : ℕ → ℕ → ℕ → Type 0 = PutIn layout.area layout.shift in
+    let put_of : PutIn layout.area layout.shift c.table_place.new.tail.base
+    (c.table_place.new.tail.base + length c.table_place.new.tail.bytes.items) c.in_ok-sections.sections.section_headers_at =
+    subst (λ (a : Area). PutIn a layout.shift c.table_place.new.tail.base
+    (c.table_place.new.tail.base + length c.table_place.new.tail.bytes.items) c.in_ok-sections.sections.section_headers_at)
+    (sym c.in_ok-layout.ensures.area)
+    (subst (λ (h : Shift). PutIn plan.area h c.table_place.new.tail.base
+    (c.table_place.new.tail.base + length c.table_place.new.tail.bytes.items) c.in_ok-sections.sections.section_headers_at)
+    (sym c.in_ok-layout.ensures.shift) c.in_ok-sections.ensures.put) in
     let put_in : Put base (start base) c.in_ok-header.header.section_headers_at =
     subst (Put base (start base)) (sym c.in_ok-header.ensures.section_headers_at)
     (subst (λ (b : ℕ). Put b (start b) c.in_ok-sections.sections.section_headers_at) base_is
     (subst (λ (b : ℕ). Put b (start c.new-tail.result.base) c.in_ok-sections.sections.section_headers_at) place.base
     (subst (λ (from : ℕ). Put c.table_place.new.tail.base from c.in_ok-sections.sections.section_headers_at) place.start
-    c.in_ok-sections.ensures.put))) in
+    put_of))) in
     let known = contents_of elf tables layout.area layout.shift in
     let sized : c.in_ok-file_size.file_size ≡ base + length tail =
     c.in_ok-file_size.ensures
@@ -133,6 +144,9 @@ returns c =
         contents = plan.contents.items;
         order = plan.order.items;
         arranged = arranged;
+        apart =
+            sym (ap (λ (i : ℕ). is_at i (place_of_symbols elf)) c.requires.plan.own.names)
+            ∙ sym (ap (is_at plan.own.section_names) c.requires.plan.own.symbols) ∙ c.requires.plan.own.apart;
         headers = c.in_ok-sections.sections.headers.items;
         count = c.in_ok-header.ensures.sections;
         put = put_in;
@@ -146,3 +160,6 @@ put-requires-clause-count c = c.requires.read.sections.count_is
 
 pub table_place-requires : goal.table_place-requires
 table_place-requires c = c.new-tail.ensures.empty
+
+pub put-requires-clause-contents : goal.put-requires-clause-contents
+put-requires-clause-contents c = c.requires.plan.arranged.contents_are.count

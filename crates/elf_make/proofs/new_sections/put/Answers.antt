@@ -1,7 +1,16 @@
-use Rattle.std.proofs.Common.{◌≡◌, ◌∙◌, sym, ap, subst, ℕ, ◌+◌, ◌++◌, List, length, drop, take, arith, rules}
-use Rattle.std.proofs.Math.Seq.{take-append_seam}
+use Rattle.std.proofs.Common.{◌≡◌, ◌∙◌, sym, ap, subst, ℕ, ◌+◌, ◌≤◌, ◌<◌, ◌++◌, List, Bool, false, Some, length, drop, take, get_or, slice_get, arith, rules}
 use Rattle.elf_image.specs.declared.section.SectionHeader.{SectionHeader}
+use Rattle.elf_image.specs.declared.section.Section.{Section}
+use Rattle.elf_plan.specs.declared.area.Area.{Area}
+use Rattle.elf_plan.specs.declared.area.Shift.{Shift}
+use Rattle.elf_plan.specs.declared.sections.Contents.{Contents}
+use Rattle.elf_plan.specs.Contents.{is_at}
+use Rattle.elf_plan.specs.NewSections.{adds_ranges}
+use Rattle.elf_make.specs.PlacedContents.{set_header}
+use Rattle.elf_make.specs.SetHeaders.{AreAdded, AreSet, Keeps}
 use Rattle.elf_make.specs.SectionTable.{ArePut}
+use Rattle.elf_make.proofs.GrownNames.{all-more}
+use Rattle.elf_make.proofs.HeadersSet.{headers-set, written-over}
 use Rattle.elf_make.proofs.new_sections.put.Goals as goal
 
 abbrev count : List SectionHeader → ℕ
@@ -9,10 +18,10 @@ count headers = length headers
 
 pub put_contents-requires-clause-within : goal.put_contents-requires-clause-within
 put_contents-requires-clause-within c =
-    let read = c.in_ok-headers.ensures in
-    let more = c.in_ok-added_headers.ensures in
+    let read = c.in_ok-headers.ensures.count in
+    let more = all-more _ _ _ _ _ _ c.in_ok-added_headers.ensures.added in
     let lent = ap count c.deref_mut.ensures.value in
-    let same = c.new_symbols.ensures in
+    let same = c.new_symbols.ensures.count in
     let lent-2 = ap count c.deref_mut-2.ensures.value in
     let set = c.set_all_contents.ensures.count in
     let lent-3 = ap count c.deref_mut-3.ensures.value in
@@ -23,10 +32,10 @@ put_contents-requires-clause-distinct c = c.requires.distinct
 
 pub put_contents-requires-clause-more : goal.put_contents-requires-clause-more
 put_contents-requires-clause-more c =
-    let read = c.in_ok-headers.ensures in
-    let more = c.in_ok-added_headers.ensures in
+    let read = c.in_ok-headers.ensures.count in
+    let more = all-more _ _ _ _ _ _ c.in_ok-added_headers.ensures.added in
     let lent = ap count c.deref_mut.ensures.value in
-    let same = c.new_symbols.ensures in
+    let same = c.new_symbols.ensures.count in
     let lent-2 = ap count c.deref_mut-2.ensures.value in
     let set = c.set_all_contents.ensures.count in
     let lent-3 = ap count c.deref_mut-3.ensures.value in
@@ -42,16 +51,80 @@ returns-clause-put c =
     let long : ℕ = c.added_headers.new.headers.len in
     let before : List SectionHeader = take long (set ++ drop (length set) (take long (symbols ++ drop (length symbols) added))) in
     let lent = ap count c.deref_mut.ensures.value in
-    let same = c.new_symbols.ensures in
+    let same = c.new_symbols.ensures.count in
     let lent-2 = ap count c.deref_mut-2.ensures.value in
     let all = c.set_all_contents.ensures.count in
     let lent-3 = ap count c.deref_mut-3.ensures.value in
     let last = c.in_ok-section_headers_at.ensures.count in
     let len : long ≡ length added = search rules in
     let full : long ≡ length new = omega (arith, len, lent, same, lent-2, all, lent-3, last) in
-    let seam : take long (new ++ drop (length new) before) ≡ new =
-    ap (λ (n : ℕ). take n (new ++ drop (length new) before)) full ∙ take-append_seam new (drop (length new) before) in
+    let seam : take long (new ++ drop (length new) before) ≡ new = written-over long new before full in
     subst (λ (headers : List SectionHeader). ArePut c.args.source.now.elf.now c.args.source.now.tables.now
-    c.args.plan.now.contents.items c.args.plan.now.order.items c.args.tail.now.base
+    c.args.plan.now.area c.args.plan.now.shift c.args.plan.now.contents.items c.args.plan.now.order.items c.args.tail.now.base
     (c.args.tail.now.base + length c.args.tail.now.bytes.items) c.put_contents.new.tail.bytes.items
     c.in_ok-section_headers_at.section_headers_at headers) (sym seam) c.in_ok-section_headers_at.ensures.put
+
+pub put_contents-requires-clause-set : goal.put_contents-requires-clause-set
+put_contents-requires-clause-set c =
+    let elf = c.args.source.now.elf.now in
+    let tables = c.args.source.now.tables.now in
+    let plan = c.args.plan.now in
+    let shift : Shift = plan.shift in
+    let area : Area = plan.area in
+    let contents : List Contents = plan.contents.items in
+    let sections : List Section = elf.sections.items in
+    let t0 : List ℕ = c.in_ok-names.names.sections.bytes.items in
+    let t1 : List ℕ = c.old_headers.new.names.bytes.items in
+    let t2 : List ℕ = c.added_headers.new.names.bytes.items in
+    let t3 : List ℕ = c.new_symbols.new.names.sections.bytes.items in
+    let olds : List SectionHeader = c.in_ok-headers.headers.items in
+    let added : List SectionHeader = c.added_headers.new.headers.items in
+    let symbols : List SectionHeader = c.new_symbols.new.headers in
+    let set : List SectionHeader = c.set_all_contents.new.headers in
+    let long : ℕ = c.added_headers.new.headers.len in
+    let lent : c.deref_mut.result.now ≡ added = c.deref_mut.ensures.value in
+    let count_lent = ap count lent in
+    let same = c.new_symbols.ensures.count in
+    let len : long ≡ length added = search rules in
+    let lent-2 : c.deref_mut-2.result.now ≡ symbols =
+    c.deref_mut-2.ensures.value ∙ written-over long symbols added (omega (arith, len, count_lent, same)) in
+    let count_lent-2 = ap count lent-2 in
+    let all = c.set_all_contents.ensures.count in
+    let lent-3 : c.deref_mut-3.result.now ≡ set =
+    c.deref_mut-3.ensures.value
+    ∙ written-over long set _ (omega (arith, len, count_lent, same, count_lent-2, all)) in
+    let names : c.bytes.result.now ≡ t3 = c.bytes.ensures in
+    let ranges : c.adds_ranges-adds_ranges.result ≡ adds_ranges sections tables = c.adds_ranges-adds_ranges.ensures in
+    let is_sections : c.deref-2.result.now ≡ sections = c.deref-2.ensures.value in
+    let is_contents : c.deref-3.result.now ≡ contents = c.deref-3.ensures.value in
+    let are = subst (λ (b : Bool). AreAdded t2 tables area b olds added) ranges c.in_ok-added_headers.ensures.added in
+    let more = all-more _ _ _ _ _ _ c.in_ok-added_headers.ensures.added in
+    let done : AreSet elf tables area shift contents t3 set =
+    headers-set elf tables area shift contents plan.own.symbols t1 t2 t3 c.in_ok-added_headers.ensures.keeps
+    c.in_ok-symbols.ensures.keeps olds added symbols set c.requires.own.symbols c.requires.count c.requires.contents
+    c.in_ok-headers.ensures.count c.in_ok-headers.ensures.each are (same ∙ count_lent)
+    (subst (λ (hs : List SectionHeader). (k : ℕ) (d : SectionHeader) → get_or symbols k d
+    ≡ record (get_or hs k d) { info = (get_or symbols k d).info }) lent c.new_symbols.ensures.same)
+    (subst (λ (hs : List SectionHeader). (k : ℕ) (d : SectionHeader) → is_at k plan.own.symbols ≡ false →
+    get_or symbols k d ≡ get_or hs k d) lent c.new_symbols.ensures.others)
+    (all ∙ count_lent-2)
+    (subst (λ (hs : List SectionHeader). (k : ℕ) (h : SectionHeader) (s : Section) (x : Contents) → k < length contents →
+    k < length hs → k < length sections → get_or set k h
+    ≡ set_header shift (get_or contents k x) (get_or sections k s) (get_or hs k h)) lent-2
+    (subst (λ (ss : List Section). (k : ℕ) (h : SectionHeader) (s : Section) (x : Contents) → k < length contents →
+    k < length c.deref_mut-2.result.now → k < length ss → get_or set k h
+    ≡ set_header shift (get_or contents k x) (get_or ss k s) (get_or c.deref_mut-2.result.now k h)) is_sections
+    (subst (λ (cs : List Contents). (k : ℕ) (h : SectionHeader) (s : Section) (x : Contents) → k < length cs →
+    k < length c.deref_mut-2.result.now → k < length c.deref-2.result.now → get_or set k h
+    ≡ set_header shift (get_or cs k x) (get_or c.deref-2.result.now k s) (get_or c.deref_mut-2.result.now k h)) is_contents
+    c.set_all_contents.ensures.set)))
+    (subst (λ (hs : List SectionHeader). (k : ℕ) (h : SectionHeader) → length contents ≤ k → get_or set k h ≡ get_or hs k h)
+    lent-2
+    (subst (λ (cs : List Contents). (k : ℕ) (h : SectionHeader) → length cs ≤ k →
+    get_or set k h ≡ get_or c.deref_mut-2.result.now k h) is_contents c.set_all_contents.ensures.others))
+    (omega (arith, more))
+    (λ s at. subst (λ (table : List ℕ). Keeps table t1)
+    (c.in_ok-names.ensures s (subst (λ (i : ℕ). slice_get sections i ≡ Some s) (sym c.requires.own.names) at))
+    c.in_ok-headers.ensures.keeps) in
+    subst (λ (table : List ℕ). AreSet elf tables area shift contents table c.deref_mut-3.result.now) (sym names)
+    (subst (AreSet elf tables area shift contents t3) (sym lent-3) done)

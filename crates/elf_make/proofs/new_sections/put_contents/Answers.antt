@@ -1,9 +1,10 @@
-use Rattle.std.proofs.Common.{◌∙◌, sym, subst, ℕ, ◌+◌, ◌<◌, List, ◌++◌, Bool, length, map}
+use Rattle.std.proofs.Common.{◌∙◌, sym, ap, subst, ℕ, ◌+◌, ◌<◌, List, ◌++◌, Bool, String, Vec, Global, length, map}
 use Rattle.std.specs.Prelude.{All, AllPairs, ◌≢◌}
 use Rattle.elf_image.specs.declared.section.SectionHeader.{SectionHeader}
 use Rattle.elf_plan.specs.declared.sections.Contents.{Contents}
 use Rattle.elf_plan.specs.FileLayout.{added_ranges}
 use Rattle.elf_make.specs.PlacedContents.{ArePlaced, bytes_at}
+use Rattle.elf_plan.specs.NewSections.{given_bytes}
 use Rattle.elf_make.specs.SectionTable.{AreCapped, EndsWith}
 use Rattle.elf_make.proofs.new_sections.put_contents.Goals as goal
 
@@ -36,6 +37,9 @@ returns-clause-put c =
       keeps = c.in_ok-place.ensures.keeps;
       set = set;
       placed = placed;
+      given = λ t. ap (λ (tables : List (String Global × Vec ℕ Global)). given_bytes tables t) c.requires.tables;
+      ranges = c.requires.ranges;
+      are_set = c.requires.set;
       are_placed = subst (λ (b : Bool). ArePlaced (bytes_at new elf c.args.plan.now.contents.items)
           (map (λ (e : ℕ × ℕ). e.1) c.args.plan.now.order.items ++ added_ranges b (length set)) base start front set placed)
           c.requires.adds

@@ -8,7 +8,7 @@ use Rattle.elf_make.proofs.new_sections.put_table.Goals as goal
 pub returns-clause-capped : goal.returns-clause-capped
 returns-clause-capped c = λ k d below.
     let at_end = c.in_ok-place.ensures.end in
-    let end = c.in_ok-end.ensures in
+    let end = c.in_ok-end.ensures.end in
     let base = c.in_ok-append.ensures.base in
     let more = c.in_ok-append.ensures.end in
     let bytes = c.deref.ensures.value in
@@ -41,6 +41,11 @@ returns-clause-ends c =
           (bytes ∙ spelled)
           (subst (λ (o : ℕ). Stands c.append.new.self.bytes.items o c.deref.result.now) place c.in_ok-append.ensures.stands);
       size = omega (arith, base, at_end, same, more, size);
+      small =
+          let end = c.in_ok-end.ensures.end in
+          let fits = c.in_ok-end.ensures.fits in
+          let count = c.cap_offsets.ensures.count in
+          omega (arith, base, at_end, same, more, size, end, fits, count);
     }
 
 pub returns-clause-keeps : goal.returns-clause-keeps
