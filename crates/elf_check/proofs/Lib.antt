@@ -1,5 +1,4 @@
 mod GivenNames
-pub mod InArea
 pub mod NamedParts
 pub mod ReadFiles
 pub mod SymbolsRead

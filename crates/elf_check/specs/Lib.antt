@@ -1,4 +1,3 @@
-pub mod ArrangedTables
 pub mod EntryNames
 pub mod NewNames
 pub mod NewSymbols

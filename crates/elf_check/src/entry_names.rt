@@ -1,22 +1,18 @@
-// The names of sections and symbols by the places at which they begin, so that those which are ends of one text need
-// not be compared byte by byte. gABI, "String Table".
+// The names of symbols by the places at which they begin, so that those which are ends of one text need not be
+// compared byte by byte. gABI, "String Table".
 ghost use Rattle.std.specs.Prelude.{◌≡◌, ◌+◌, ◌++◌, IfSome, IsTrue, List, length};
 ghost use Rattle.std.proofs.Props.{props};
-ghost use Rattle.elf_image.specs.declared.section.Section.{Section};
 ghost use Rattle.elf_image.specs.declared.symbol.Symbol.{Symbol};
 ghost use Rattle.elf_image.specs.faults.Truncation.{IsReadable};
-ghost use Rattle.elf_image.specs.file.Header.{e_shnum};
-ghost use Rattle.elf_image.specs.file.ParsedFile.{AreSections, AreSymbolsOf};
+ghost use Rattle.elf_image.specs.file.ParsedFile.{AreSymbolsOf};
 ghost use Rattle.elf_image.specs.file.Symbols.{symbol_table};
 ghost use Rattle.elf_check.specs.EntryNames.{AreNamed, IsEnd, WasRead};
 
 use crate::name_parts::behind;
 use elf_image::Elf;
 use elf_image::entries::{SectionTable, symbol_table};
-use elf_image::header::Header;
-use elf_image::names::{section_bytes, symbol_texts};
+use elf_image::names::symbol_texts;
 use elf_image::number::u32_at;
-use elf_image::section::SHDR_SIZE;
 use elf_image::symbol::SYM_SIZE;
 
 /// The places of the names of a table's entries. Each entry begins with the offset of its name in the table of names,
@@ -49,22 +45,6 @@ impl<'a> EntryNames<'a> {
     }
 }
 
-// The names of the sections of a file.
-fn names_of_sections<'a>(file: &'a [u8]) -> EntryNames<'a>
-    requires { IsReadable file.now }
-    ensures { (sections : List Section) → AreSections file.now (e_shnum file.now) sections →
-        AreNamed (λ s. s.name.now) result 0 sections }
-{
-    let header = Header { file }.fields();
-    let table = SectionTable { file }.section_of(header.shstrndx as usize);
-    EntryNames {
-        file,
-        start: header.shoff as usize,
-        size: SHDR_SIZE,
-        texts: section_bytes(file, &table),
-    }
-}
-
 // The names of the symbols of a file; no entries if there is no symbol table.
 fn names_of_symbols<'a>(file: &'a [u8]) -> EntryNames<'a>
     requires { IsReadable file.now }
@@ -85,14 +65,6 @@ fn names_of_symbols<'a>(file: &'a [u8]) -> EntryNames<'a>
             texts: &file[..0],
         },
     }
-}
-
-// The names of the sections of a file that was read.
-fn section_names<'a>(elf: &Elf<'a>) -> EntryNames<'a>
-    requires { WasRead elf.now }
-    ensures { AreNamed (λ s. s.name.now) result 0 elf.now.sections.items }
-{
-    names_of_sections(elf.file)
 }
 
 // The names of the symbols of a file that was read.
@@ -138,16 +110,6 @@ impl<'a> KeptNames<'a> {
             new,
             added: behind(new.texts, old.texts),
         }
-    }
-
-    /// The names of the sections of the input and of the written file.
-    pub fn of_sections(elf: &Elf<'a>, written: &Elf<'a>) -> KeptNames<'a>
-        requires old { WasRead elf.now }
-        requires new { WasRead written.now }
-        ensures old { AreNamed (λ s. s.name.now) result.old 0 elf.now.sections.items }
-        ensures new { AreNamed (λ s. s.name.now) result.new 0 written.now.sections.items }
-    {
-        KeptNames::new(section_names(elf), section_names(written))
     }
 
     /// The names of the symbols of the input and of the written file.

@@ -2,11 +2,10 @@
 #![tactic(auto)]
 
 mod entry_names;
+mod file_check;
 mod name_check;
 mod name_parts;
 mod read_back;
-mod section_check;
-mod section_tables;
 mod symbol_check;
 mod symbol_tables;
 

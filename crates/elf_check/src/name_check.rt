@@ -6,8 +6,8 @@ ghost use Rattle.elf_plan.specs.FirstNames.{AreFirstNames};
 ghost use Rattle.elf_check.specs.NewNames as spec;
 ghost use Rattle.elf_check.specs.NewNames.{HaveNewNames};
 
+use crate::file_check::FileCheck;
 use crate::name_parts::behind;
-use crate::section_tables::FileCheck;
 use elf_image::named::{EH_FRAME, EH_FRAME_HDR};
 use elf_image::{Elf, Section, Symbol};
 use elf_plan::area::Area;

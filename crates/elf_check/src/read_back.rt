@@ -1,13 +1,11 @@
-// Whether a file that was written has the sections, names and symbols that it must have, as they are read back.
-ghost use Rattle.std.specs.Prelude.{◌≡◌, IfOk, IsTrue, length};
+// Whether a file that was written has the names and symbols that it must have, as they are read back.
+ghost use Rattle.std.specs.Prelude.{◌≡◌, ℕ, IfOk, IsTrue, List, length};
 ghost use Rattle.rv_code.specs.layout.FunctionLists.{AreLaidOut};
 ghost use Rattle.elf_image.specs.faults.FileFaults.{IsSound};
 ghost use Rattle.elf_image.specs.declared.elf.Elf.{Elf};
-ghost use Rattle.elf_image.specs.file.Header.{e_shstrndx};
 ghost use Rattle.elf_image.specs.file.ParsedFile.{IsElfOf};
 ghost use Rattle.elf_plan.specs.FirstNames.{AreFirstNames};
 ghost use Rattle.elf_plan.specs.FragmentLists.{AreFragments};
-ghost use Rattle.elf_plan.specs.AreaStands.{AreaStands};
 ghost use Rattle.elf_check.specs.EntryNames.{WasRead};
 ghost use Rattle.elf_plan.specs.FileLayout.{HasFileLayout};
 ghost use Rattle.elf_plan.specs.HeaderPlaces.{HasNewHeaders};
@@ -16,12 +14,11 @@ ghost use Rattle.elf_check.specs.NewNames.{HaveNewNames};
 ghost use Rattle.elf_plan.specs.NewSections.{AreNewSections};
 ghost use Rattle.elf_plan.specs.Plans.{IsPlanOf};
 ghost use Rattle.elf_check.specs.NewSymbols.{AreNewSymbols, HaveNewSymbols, bytes_behind};
-ghost use Rattle.elf_check.specs.ArrangedTables.{IsArranged};
 ghost use Rattle.elf_check.specs.NewTables.{HasNewTables};
 
 use crate::entry_names::KeptNames;
+use crate::file_check::FileCheck;
 use crate::name_check::has_names;
-use crate::section_tables::FileCheck;
 use crate::symbol_check::CodeSymbols;
 use crate::symbol_tables::SymbolTables;
 use elf_image::symbol::SYM_SIZE;
@@ -33,21 +30,6 @@ use elf_plan::source::SectionSource;
 use elf_plan::unwritable::Unwritable;
 use rb_bytes::fault::Refusal;
 use std::alloc::Global;
-
-// Whether the sections are those that the file must have.
-fn has_new_sections(check: &FileCheck) -> bool
-    requires old { WasRead check.now.elf.now }
-    requires new { WasRead check.now.new.now }
-    requires arranged { IsArranged check.now }
-    requires names { e_shstrndx check.now.new.now.file.now ≡ e_shstrndx check.now.elf.now.file.now }
-    ensures { IsTrue result →
-        AreaStands check.now.area check.now.given.now check.now.code.now check.now.new.now.file.now →
-        AreNewSections check.now.elf.now check.now.new.now check.now.given.now check.now.area check.now.shift
-        check.now.code.now }
-{
-    let names = KeptNames::of_sections(check.elf, check.new);
-    check.are_new(&names)
-}
 
 // The bytes of a symbol table after its last whole symbol.
 fn bytes_behind<'a>(elf: &Elf<'a>, table: &Section) -> &'a [u8]
@@ -165,25 +147,18 @@ fn has_names_and_symbols(
     has_symbols(alloc, source, check.new)
 }
 
-// Whether sections, names and symbols are what they must be.
+// Whether names and symbols are what they must be.
 fn has_new_tables(
     alloc: Global,
     source: &SectionSource,
-    code: &[u8],
     plan: &Plan,
     new: &Elf,
 ) -> Result<bool, Unwritable>
     requires old { WasRead source.now.elf.now }
     requires new { WasRead new.now }
-    requires plan { IsPlanOf source.now.elf.now source.now.tables.now code.now plan.now.area.tight plan.now }
-    requires names { e_shstrndx new.now.file.now ≡ e_shstrndx source.now.elf.now.file.now }
     requires laid_out { AreLaidOut source.now.funcs.now }
     requires fragments { AreFragments source.now.funcs.now source.now.map.now source.now.fragments.now }
     requires firsts { AreFirstNames source.now.elf.now.symbols.items source.now.names.now }
-    ensures sections { IfOk result (λ holds. IsTrue holds →
-        AreaStands plan.now.area source.now.tables.now code.now new.now.file.now →
-        AreNewSections source.now.elf.now new.now source.now.tables.now
-        plan.now.area plan.now.shift code.now) }
     ensures names { IfOk result (λ holds. IsTrue holds → HaveNewNames source.now.elf.now new.now source.now.tables.now
         plan.now.area source.now.funcs.now source.now.cold.now) }
     ensures symbols { IfOk result (λ holds. IsTrue holds →
@@ -194,44 +169,37 @@ fn has_new_tables(
         new,
         given: source.tables,
         area: plan.area,
-        shift: plan.shift,
-        contents: &plan.contents,
-        code,
     };
-    if !has_new_sections(&check) {
-        return Ok(false);
-    }
     has_names_and_symbols(alloc, source, &check)
 }
 
-/// Whether the reader takes the bytes `file`, and finds in them the sections, names and symbols that follow from the
-/// input, its new code `code` and its plan. The bytes of the new area, the program headers and the layout are proved
-/// of each file that is made, so they aren't looked at.
+/// Whether the reader takes the bytes `file`, and finds in them the names and symbols that follow from the input and
+/// its plan. The sections, the program headers and the layout are proved of each file that is made, so they aren't
+/// looked at.
 pub fn is_accepted(
     alloc: Global,
     source: &SectionSource,
-    code: &[u8],
     plan: &Plan,
     file: &[u8],
 ) -> Result<bool, Unwritable>
     requires old { WasRead source.now.elf.now }
-    requires plan { IsPlanOf source.now.elf.now source.now.tables.now code.now plan.now.area.tight plan.now }
-    requires names { e_shstrndx file.now ≡ e_shstrndx source.now.elf.now.file.now }
     requires laid_out { AreLaidOut source.now.funcs.now }
     requires fragments { AreFragments source.now.funcs.now source.now.map.now source.now.fragments.now }
     requires firsts { AreFirstNames source.now.elf.now.symbols.items source.now.names.now }
     ensures sound { IfOk result (λ holds. IsTrue holds → IsSound file.now) }
-    ensures tables { IfOk result (λ holds. IsTrue holds →
-        AreaStands plan.now.area source.now.tables.now code.now file.now →
+    ensures tables { IfOk result (λ holds. IsTrue holds → (code : List ℕ) →
+        IsPlanOf source.now.elf.now source.now.tables.now code plan.now.area.tight plan.now →
+        ((new : Elf) → IsElfOf file.now new → AreNewSections source.now.elf.now new source.now.tables.now
+        plan.now.area plan.now.shift code) →
         ((new : Elf) → IsElfOf file.now new →
         HasNewHeaders source.now.elf.now new source.now.tables.now plan.now.area plan.now.shift) →
         ((new : Elf) → IsElfOf file.now new →
         HasFileLayout source.now.elf.now new source.now.tables.now plan.now.area plan.now.shift) →
-        HasNewTables source.now.elf.now source.now.tables.now code.now source.now.funcs.now source.now.cold.now
+        HasNewTables source.now.elf.now source.now.tables.now code source.now.funcs.now source.now.cold.now
         source.now.map.now plan.now.area.tight file.now) }
 {
     match read(alloc, file) {
-        Ok(found) => has_new_tables(alloc, source, code, plan, &found),
+        Ok(found) => has_new_tables(alloc, source, plan, &found),
         Err(Refusal::Fault(_)) => Ok(false),
         Err(Refusal::Memory) => Err(Unwritable::Memory),
     }

@@ -59,7 +59,7 @@ fn written(
     let tight = is_above(elf, map)?;
     let plan = Plan::new(alloc, elf, tables, &emitted.code, tight)?;
     let file = made(alloc, &source, emitted, &plan)?;
-    if !is_accepted(alloc, &source, &emitted.code, &plan, &file)? {
+    if !is_accepted(alloc, &source, &plan, &file)? {
         return Err(Unwritable::ReadBack);
     }
     Ok(file)
@@ -69,10 +69,9 @@ fn written(
 /// parts that get a name, `emitted` the new code and the new contents of code cells, and `tables` the contents of
 /// tables that are rewritten, by the names of their sections.
 ///
-/// What is written is read back, so no file is ever answered that the reader refuses, or whose sections, program
-/// headers or symbols aren't what they must be. The bytes of the new area alone aren't read again: what they are is
-/// proved where they are made. Where no file can be written, for whichever reason of [`Unwritable`], out of memory is
-/// answered.
+/// What is written is read back, so no file is ever answered that the reader refuses, or whose names or symbols aren't
+/// what they must be. Sections, program headers and layout aren't compared: what they are is proved where they are
+/// made. Where no file can be written, for whichever reason of [`Unwritable`], out of memory is answered.
 pub fn write(
     alloc: Global,
     elf: &Elf,

@@ -1,14 +1,12 @@
-use Rattle.std.proofs.Common.{◌≡◌, ◌∙◌, ap, subst, sym, ℕ, List, Bool, Result, Ok, Err}
+use Rattle.std.proofs.Common.{◌≡◌, subst, sym, ℕ, List, Bool, Result, Ok, Err}
 use Rattle.std.specs.Prelude.{IfOk}
 use Rattle.std.proofs.lemmas.Result.{IfOk-weaker}
 use Rattle.elf_image.specs.faults.Truncation.{IsReadable}
-use Rattle.elf_image.specs.file.Header.{e_shstrndx}
 use Rattle.elf_image.specs.file.ParsedFile.{IsElfOf}
 use Rattle.elf_image.specs.declared.segment.Segment.{Segment}
 use Rattle.elf_plan.specs.declared.area.Area.{Area}
 use Rattle.elf_plan.specs.declared.area.Shift.{Shift}
 use Rattle.elf_plan.specs.Area.{shift_of}
-use Rattle.elf_plan.specs.AreaStands.{AreaStands}
 use Rattle.elf_plan.specs.FileLayout.{HasFileLayout}
 use Rattle.elf_plan.specs.HeaderPlaces.{HasNewHeaders}
 use Rattle.elf_plan.specs.NewSections.{AreNewSections}
@@ -22,14 +20,11 @@ has_new_tables-requires-clause-new c =
     was_read (subst IsReadable same c.in-Ok.ensures.readable)
     (subst (λ (f : List ℕ). IsElfOf f c.in-Ok.found) same c.in-Ok.ensures.fields)
 
-pub has_new_tables-requires-clause-names : goal.has_new_tables-requires-clause-names
-has_new_tables-requires-clause-names c = ap e_shstrndx c.in-Ok.ensures.fields.file_is ∙ c.requires.names
-
--- all of them of one answer
-together : {E : Type 0} (r : Result Bool E) (P Q R S : Bool → Type 0) → ((b : Bool) → P b → Q b → R b → S b) → IfOk r P →
-    IfOk r Q → IfOk r R → IfOk r S
-together (Ok b) P Q R S gives p q r = gives b p q r
-together (Err e) P Q R S gives p q r = record {}
+-- both of them of one answer
+together : {E : Type 0} (r : Result Bool E) (P Q R : Bool → Type 0) → ((b : Bool) → P b → Q b → R b) → IfOk r P → IfOk r Q →
+    IfOk r R
+together (Ok b) P Q R gives p q = gives b p q
+together (Err e) P Q R gives p q = record {}
 
 -- what holds of the area and the shift of a plan holds of those that must be
 settled : (segments : List Segment) (made area : Area) (shift : Shift) (P : Area → Shift → Type 0) → made ≡ area →
@@ -42,18 +37,15 @@ returns-in-Ok-clause-tables c =
     let source = c.args.source.now in
     let elf = source.elf.now in
     let tables = source.tables.now in
-    let code = c.args.code.now in
     let plan = c.args.plan.now in
     let new = c.in-Ok.found in
-    let is = c.requires.plan in
-    together c.has_new_tables.result _ _ _ _
-    (λ b sections names symbols holds stands headers layout. record {
+    together c.has_new_tables.result _ _ _
+    (λ b names symbols holds code is sections headers layout. record {
       new = new;
       read = c.in-Ok.ensures.fields;
       sections = settled elf.segments.items plan.area _ plan.shift (λ a s. AreNewSections elf new tables a s code) is.area
           is.shift
-          (sections holds
-          (subst (λ (f : List ℕ). AreaStands plan.area tables code f) (sym c.in-Ok.ensures.fields.file_is) stands));
+          (sections new c.in-Ok.ensures.fields);
       headers = settled elf.segments.items plan.area _ plan.shift (HasNewHeaders elf new tables) is.area is.shift
           (headers new c.in-Ok.ensures.fields);
       names = subst (λ (a : Area). HaveNewNames elf new tables a source.funcs.now source.cold.now) is.area (names holds);
@@ -61,7 +53,7 @@ returns-in-Ok-clause-tables c =
       layout = settled elf.segments.items plan.area _ plan.shift (HasFileLayout elf new tables) is.area is.shift
           (layout new c.in-Ok.ensures.fields);
     })
-    c.has_new_tables.ensures.sections c.has_new_tables.ensures.names c.has_new_tables.ensures.symbols
+    c.has_new_tables.ensures.names c.has_new_tables.ensures.symbols
 
 pub returns-in-Ok-clause-sound : goal.returns-in-Ok-clause-sound
 returns-in-Ok-clause-sound c =

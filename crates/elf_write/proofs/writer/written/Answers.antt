@@ -1,6 +1,5 @@
 use Rattle.std.proofs.Common.{◌≡◌, ◌∙◌, ap, subst, sym, Bool, List, ℕ, String, Vec}
 use Rattle.elf_image.specs.faults.FileFaults.{IsSound}
-use Rattle.elf_image.specs.file.Header.{e_shstrndx}
 use Rattle.elf_image.specs.declared.elf.Elf.{Elf}
 use Rattle.elf_image.specs.file.ParsedFile.{IsElfOf}
 use Rattle.elf_plan.specs.declared.area.Area.{Area}
@@ -14,6 +13,7 @@ use Rattle.elf_image.specs.declared.symbol.Symbol.{Symbol}
 use Rattle.elf_plan.specs.FirstNames.{AreFirstNames}
 use Rattle.elf_plan.specs.FragmentLists.{AreFragments}
 use Rattle.elf_plan.specs.AreaStands.{AreaStands}
+use Rattle.elf_plan.specs.NewSections.{AreNewSections}
 use Rattle.elf_make.specs.CellNumbers.{in_pieces}
 use Rattle.elf_check.specs.EntryNames.WasRead.{was_read}
 use Rattle.elf_plan.specs.Plans.{IsPlanOf}
@@ -24,9 +24,9 @@ use Rattle.elf_make.proofs.CellPieces.{pieces_apart, pieces_can}
 use Rattle.elf_make.proofs.CodeWritten.{area-written}
 use Rattle.elf_make.proofs.HeadersRead.{headers-read}
 use Rattle.elf_make.proofs.LayoutRead.{layout-read}
-use Rattle.elf_make.proofs.MadeHeaders.{e_shstrndx-written}
 use Rattle.elf_make.proofs.PiecesWritten.{placed_in_pieces, written_in_pieces}
 use Rattle.elf_make.proofs.SoundFiles.{readable}
+use Rattle.elf_make.proofs.SectionsMade.{sections-read}
 use Rattle.elf_write.proofs.writer.written.Goals as goal
 
 pub made-requires-clause-readable : goal.made-requires-clause-readable
@@ -44,12 +44,6 @@ made-requires-clause-plan c =
     (subst (λ (bs : List ℕ). IsPlanOf c.args.elf.now c.args.tables.now bs c.in_ok-tight.tight c.in_ok-plan.plan)
     c.deref-3.ensures.value c.in_ok-plan.ensures)
 
-pub is_accepted-requires-clause-plan : goal.is_accepted-requires-clause-plan
-is_accepted-requires-clause-plan c =
-    above_tight c.args.elf.now c.args.tables.now c.deref-4.result.now c.in_ok-tight.tight c.in_ok-plan.plan
-    (subst (λ (bs : List ℕ). IsPlanOf c.args.elf.now c.args.tables.now bs c.in_ok-tight.tight c.in_ok-plan.plan)
-    (c.deref-3.ensures.value ∙ sym c.deref-4.ensures.value) c.in_ok-plan.ensures)
-
 pub is_accepted-requires-clause-old : goal.is_accepted-requires-clause-old
 is_accepted-requires-clause-old c = was_read (readable c.args.elf.now.file.now c.requires.sound) c.requires.read
 
@@ -62,13 +56,6 @@ pub is_accepted-requires-clause-firsts : goal.is_accepted-requires-clause-firsts
 is_accepted-requires-clause-firsts c =
     subst (λ (symbols : List Symbol). AreFirstNames symbols c.in_ok-names.names) c.deref.ensures.value c.in_ok-names.ensures
 
-pub is_accepted-requires-clause-names : goal.is_accepted-requires-clause-names
-is_accepted-requires-clause-names c =
-    ap e_shstrndx c.deref-5.ensures.value
-    ∙ e_shstrndx-written
-    (in_pieces (source_of c.args.elf.now c.args.emitted.now c.args.map.now c.args.tables.now)) c.in_ok-plan.plan.area.tight
-    c.in_ok-file.file.items c.in_ok-file.ensures.made
-
 pub returns-clause-written : goal.returns-clause-written
 returns-clause-written c = λ tight placed.
     let elf = c.args.elf.now in
@@ -77,7 +64,7 @@ returns-clause-written c = λ tight placed.
     written_in_pieces s tight w c.requires.cells
     (all-written (in_pieces s) c.in_ok-plan.plan.area.tight w c.requires.read c.requires.sound c.requires.bytes
     (pieces_can elf s.cells c.requires.cells) (pieces_apart elf.segments.items s.cells c.requires.apart) c.in_ok-file.ensures.made
-    (subst IsSound c.deref-5.ensures.value (c.in_ok-is_accepted.ensures.sound c.if-not-branch.false))
+    (subst IsSound c.deref-4.ensures.value (c.in_ok-is_accepted.ensures.sound c.if-not-branch.false))
     (ap (λ (a : Area). a.tight) c.in_ok-plan.ensures.area ∙ c.in_ok-tight.ensures)
     tight (placed_in_pieces s tight placed))
 
@@ -96,7 +83,7 @@ returns-clause-tables c = λ tight placed.
     let apart = pieces_apart elf.segments.items c.args.emitted.now.cells.items c.requires.apart in
     let in_place = placed_in_pieces (source_of elf c.args.emitted.now spans tables) tight placed in
     let made = c.in_ok-file.ensures in
-    let sound_w : IsSound w = subst IsSound c.deref-5.ensures.value (c.in_ok-is_accepted.ensures.sound c.if-not-branch.false) in
+    let sound_w : IsSound w = subst IsSound c.deref-4.ensures.value (c.in_ok-is_accepted.ensures.sound c.if-not-branch.false) in
     let there : above ≡ tight = placed-there s above w c.requires.read c.requires.sound c.requires.bytes can apart made.made
     sound_w (ap (λ (a : Area). a.tight) c.in_ok-plan.ensures.area ∙ c.in_ok-tight.ensures) tight in_place in
     let stands =
@@ -111,15 +98,16 @@ returns-clause-tables c = λ tight placed.
     made.made.laid_out.shift ∙ ap (shift_of elf.segments.items) made_area ∙ sym planned.shift in
     let planned_by : (P : Area → Shift → Type 0) → P made.made.layout.area made.made.layout.shift → P plan.area plan.shift =
     λ P holds. subst (P plan.area) made_shift (subst (λ (a : Area). P a made.made.layout.shift) made_area holds) in
-    let Accepts : List ℕ → List ℕ → Type 0 = λ bs f. AreaStands plan.area tables bs f →
+    let Accepts : List ℕ → Type 0 = λ f. (bs : List ℕ) → IsPlanOf elf tables bs above plan →
+    ((new : Elf) → IsElfOf f new → AreNewSections elf new tables plan.area plan.shift bs) →
     ((new : Elf) → IsElfOf f new → HasNewHeaders elf new tables plan.area plan.shift) →
     ((new : Elf) → IsElfOf f new → HasFileLayout elf new tables plan.area plan.shift) →
     HasNewTables elf tables bs funcs cold spans above f in
-    let found : Accepts code w = subst (Accepts code) c.deref-5.ensures.value
-    (subst (λ (bs : List ℕ). Accepts bs c.deref-5.result.now) c.deref-4.ensures.value
-    (c.in_ok-is_accepted.ensures.tables c.if-not-branch.false)) in
+    let found : Accepts w = subst Accepts c.deref-4.ensures.value (c.in_ok-is_accepted.ensures.tables c.if-not-branch.false) in
     subst (λ (t : Bool). HasNewTables elf tables code funcs cold spans t w) there
-    (found (subst (λ (a : Area). AreaStands a tables code w) (sym planned.area) stands)
+    (found code planned (λ new read. planned_by (λ a h. AreNewSections elf new tables a h code)
+    (sections-read s above w c.requires.read c.requires.sound made.made can tables made.sections new read
+    (subst (λ (a : Area). AreaStands a tables code w) (sym made.made.laid_out.area) stands)))
     (λ new read. planned_by (HasNewHeaders elf new tables)
     (headers-read s above w c.requires.read c.requires.sound made.made can tables made.sections new read))
     (λ new read. planned_by (HasFileLayout elf new tables)
