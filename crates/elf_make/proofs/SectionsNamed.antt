@@ -122,7 +122,8 @@ module _ {Y Z : Type 0} (s : Source) (tight : Bool) (w : List ℕ) (read : IsElf
         )),
       ))
 
-  old-text : (k : ℕ) → k < length olds → text_of table (section_header file k).name ≡ text_of (section_names file) (section_header file k).name
+  old-text : (k : ℕ) → k < length olds →
+      text_of table (section_header file k).name ≡ text_of (section_names file) (section_header file k).name
   old-text k below =
       let (x, at_x) = names-section in
       let same : section_names file ≡ section_bytes file x = contents-read file at x (read.sections.each at x at_x) in

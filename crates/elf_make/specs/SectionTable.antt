@@ -37,7 +37,8 @@ pub record EndsWith (base end : ℕ) (tail : List ℕ) (at : ℕ) (headers : Lis
 -- The contents of sections are in the tail of a file from the offset `start` on, and the table of their headers, at
 -- `at`, ends the file.
 pub record ArePut {Y Z : Type 0} (elf : Elf) (tables : List (String Y × Vec ℕ Z)) (area : Area) (shift : Shift)
-    (contents : List Contents) (order : List (ℕ × ℕ)) (base start : ℕ) (tail : List ℕ) (at : ℕ) (headers : List SectionHeader) : Type 0 where
+    (contents : List Contents) (order : List (ℕ × ℕ)) (base start : ℕ) (tail : List ℕ) (at : ℕ)
+    (headers : List SectionHeader) : Type 0 where
   -- the contents that are written, and the bytes of the tail up to where they end
   pub new : NewContents
   pub given : (t : ℕ) → given_bytes new.tables.now t ≡ given_bytes tables t

@@ -239,8 +239,8 @@ fn put_contents(
     ensures base { IfOk result (λ at. tail.new.base ≡ tail.old.base) }
     ensures count { IfOk result (λ at. length headers.new ≡ length headers.old) }
     ensures put { IfOk result (λ at. ArePut source.now.elf.now source.now.tables.now plan.now.area plan.now.shift
-        plan.now.contents.items plan.now.order.items tail.old.base (tail.old.base + length tail.old.bytes.items) tail.new.bytes.items at
-        headers.new) }
+        plan.now.contents.items plan.now.order.items tail.old.base (tail.old.base + length tail.old.bytes.items)
+        tail.new.bytes.items at headers.new) }
 {
     check_end(source.elf, &plan.contents, &plan.order, new, tail.end()?)?;
     place_all(
@@ -273,8 +273,8 @@ pub fn put(
     ensures names { IfOk result (λ new. new.names ≡ e_shstrndx source.now.elf.now.file.now) }
     ensures base { IfOk result (λ new. tail.new.base ≡ tail.old.base) }
     ensures put { IfOk result (λ new. ArePut source.now.elf.now source.now.tables.now plan.now.area plan.now.shift
-        plan.now.contents.items plan.now.order.items tail.old.base (tail.old.base + length tail.old.bytes.items) tail.new.bytes.items
-        new.section_headers_at new.headers.items) }
+        plan.now.contents.items plan.now.order.items tail.old.base (tail.old.base + length tail.old.bytes.items)
+        tail.new.bytes.items new.section_headers_at new.headers.items) }
 {
     check_sizes(source, &plan.contents)?;
     let mut names = NewNames::new(alloc, source.elf, &plan.own)?;

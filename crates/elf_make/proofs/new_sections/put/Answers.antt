@@ -1,4 +1,5 @@
-use Rattle.std.proofs.Common.{◌≡◌, ◌∙◌, sym, ap, subst, ℕ, ◌+◌, ◌≤◌, ◌<◌, ◌++◌, List, Bool, false, Some, length, drop, take, get_or, slice_get, arith, rules}
+use Rattle.std.proofs.Common.{◌≡◌, ◌∙◌, sym, ap, subst, ℕ, ◌+◌, ◌≤◌, ◌<◌, ◌++◌, List, Bool, false, Some, length, drop, take, get_or}
+use Rattle.std.proofs.Common.{slice_get, arith, rules}
 use Rattle.elf_image.specs.declared.section.SectionHeader.{SectionHeader}
 use Rattle.elf_image.specs.declared.section.Section.{Section}
 use Rattle.elf_plan.specs.declared.area.Area.{Area}

@@ -3,7 +3,8 @@ use Rattle.elf_make.specs.declared.names.NameTable.{NameTable}
 use Rattle.elf_make.specs.SetHeaders.{Keeps}
 use Rattle.elf_make.proofs.GrownNames.{both-keep}
 use Rattle.elf_make.proofs.symbols.cold_symbols.Goals as goal
-use Rattle.elf_make.proofs.symbols.cold_symbols.Goals.{in-Some+in_ok-name+in-Some-cold_entry+in_ok-push, in-Some+in_ok-name+in_default-cold_entry, in_default}
+use Rattle.elf_make.proofs.symbols.cold_symbols.Goals.{in-Some+in_ok-name+in-Some-cold_entry+in_ok-push}
+use Rattle.elf_make.proofs.symbols.cold_symbols.Goals.{in-Some+in_ok-name+in_default-cold_entry, in_default}
 
 pub loop-address-preserved : goal.loop-address-preserved
 loop-address-preserved c = elim c.match-named_around.branch [
