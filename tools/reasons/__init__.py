@@ -1,0 +1,1 @@
+"""What is wrong at the place of a refusal: one module for each kind of fault, and what they share (`why.py`)."""
