@@ -31,6 +31,9 @@ PLAIN = declaration(1, COMPILE)
 def versions():
     yield Planted("version-info", program(info(b"\1", version=4), PLAIN + b"\0"), "DwarfVersion at 0",
                   ("offset 0 of `.debug_info`", "version 4", "only 5"))
+    old = unit(number(4, 2) + bytes(4) + b"\x08\1old.c\0")
+    yield Planted("version-4", program(old, declaration(1, COMPILE, (NAME, STRING)) + b"\0"), "DwarfVersion at 0",
+                  ("`old.c`", "version 4"))
     two = info(b"\1") + info(b"\1", version=3)
     place = len(info(b"\1"))
     yield Planted("version-second", program(two, PLAIN + b"\0"), f"DwarfVersion at {place:x}",

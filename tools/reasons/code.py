@@ -2,6 +2,7 @@
 instructions in words (ISA manual, chapters 2 and 34)."""
 import bisect
 import functools
+import itertools
 
 LUI, AUIPC, JAL, JALR, BRANCH, LOAD, STORE, OP_IMM = 0x37, 0x17, 0x6F, 0x67, 0x63, 0x03, 0x23, 0x13
 # Instructions that aren't in RV64IMC, by their opcodes; and those of two bytes, by quadrant and funct3.
@@ -104,28 +105,35 @@ def what_else(word, size):
     return OPCODES.get(opcode, "reserved, or of another extension")
 
 
+class Cover:
+    """Ranges, in order of their starts."""
+
+    def __init__(self, ranges):
+        self.starts = [start for start, _ in ranges]
+        self.ends = list(itertools.accumulate((end for _, end in ranges), max))
+
+    def end(self, address):
+        """The greatest end of the ranges that start at or before an address, or 0."""
+        i = bisect.bisect_right(self.starts, address)
+        return self.ends[i - 1] if i else 0
+
+
 class Code:
     """Parts of executable sections between neighbouring cuts, which are bounds of function symbols and sections."""
 
     def __init__(self, image):
         self.image, self._starts = image, {}
-        bounds = [(it.value, it.size) for it in image.symbols if it.is_function()]
-        bounds += [(it.address, it.size) for it in image.code_sections]
-        self.cuts = sorted({at for start, size in bounds for at in (start, start + size) if at < 1 << 64})
+        functions = sorted((it.value, it.value + it.size) for it in image.symbols if it.is_function())
+        sections = sorted((it.address, it.address + it.size) for it in image.code_sections)
+        self.cuts = sorted({at for bounds in functions + sections for at in bounds if at < 1 << 64})
+        self._functions, self._sections = Cover(functions), Cover(sections)
 
     def part_of(self, address):
         """The part that holds an address, as its start and its end; none outside executable sections."""
         i = bisect.bisect_right(self.cuts, address)
-        if not 0 < i < len(self.cuts) or not self.is_in_code(self.cuts[i - 1]):
+        if not 0 < i < len(self.cuts) or self._sections.end(self.cuts[i - 1]) <= self.cuts[i - 1]:
             return None
         return self.cuts[i - 1], self.cuts[i]
-
-    def is_in_code(self, address):
-        return any(it.address <= address < it.address + it.size for it in self.image.code_sections)
-
-    def is_covered(self, start, end):
-        """Whether the range is in that of one function symbol."""
-        return any(it.is_function() and it.value <= start and end <= it.value + it.size for it in self.image.symbols)
 
     @functools.cached_property
     def parts(self):
@@ -134,7 +142,7 @@ class Code:
 
     def is_padding(self, part):
         """Whether no symbol covers the part and its bytes are all zero."""
-        return not any(self.image.bytes_at(*part)) and not self.is_covered(*part)
+        return self._functions.end(part[0]) < part[1] and not any(self.image.bytes_at(*part))
 
     def starts_of(self, part):
         """Where instructions of a part start, in order."""

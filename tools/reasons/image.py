@@ -155,8 +155,15 @@ class Image(ElfFile):
                 found.append(Relocation(place, info & 0xFFFFFFFF, info >> 32, addend, target, table.offset + RELA * k))
         return found
 
+    @functools.cached_property
+    def _by_place(self):
+        found = {}
+        for it in self.relocations:
+            found.setdefault(it.place, []).append(it)
+        return found
+
     def relocations_at(self, place):
-        return [it for it in self.relocations if it.place == place]
+        return self._by_place.get(place, [])
 
     def byte(self, address):
         """The byte at an address, if it is loaded."""

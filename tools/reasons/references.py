@@ -277,7 +277,7 @@ def ifunc_or_plt(image, place, _):
     it = next((it for it in image.sections if it.name in (".plt", ".iplt") and it.size and it.address == place), None)
     if it:
         return Reason(f"the section `{it.name}` at {place:x} has {it.size} bytes of stubs by which functions are "
-                      "selected as the program starts", 'psABI, "Procedure Linkage Table"')
+                      "selected as the program starts", 'psABI, "Program Linkage Table"')
     found = References(image)
     r = next((it for it in image.relocations_at(place) if it.kind == rel.IRELATIVE), None)
     return r and Reason(f"the relocation {found.words(r)} selects a function as the program starts", RELOCATIONS)

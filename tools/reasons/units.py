@@ -7,6 +7,7 @@ from reasons import dwarf_names as dw
 from reasons.found import Cursor, Reason, Wrong, bytes_of
 
 UNITS, ABBREVIATIONS, FORMATS = "DWARF 5, section 7.5.1", "DWARF 5, section 7.5.3", "DWARF 5, section 7.4"
+VERSION_NUMBERS = "DWARF 5, appendix G"
 DWARF64 = 0xFFFFFFFF
 NAME, LOCATION, LOW_PC, HIGH_PC, FRAME_BASE, RANGES = 0x03, 0x02, 0x11, 0x12, 0x40, 0x55
 STR_BASE, ADDR_BASE, RNG_BASE, LOC_BASE = 0x72, 0x73, 0x74, 0x8C
@@ -64,11 +65,9 @@ def version_fault(image, place, _):
             return Reason(f"the unit at offset {place:x} of `{name}` is of 64-bit DWARF (its length begins with "
                           "ffffffff), which isn't supported", FORMATS, "`-gdwarf64`: leave it out")
         there = int.from_bytes(data[place + 4:place + 6], "little")
+        unit = Units(image).words(it) if name == ".debug_info" else f"the unit at offset {place:x}"
         if length >= 2 and len(data) >= place + 6 and there != version:
-            return Reason(f"the unit at offset {place:x} of `{name}` is of version {there}, and only {version} is "
-                          "supported",
-                          "DWARF 5, section 7.24 and appendix F" if name == ".debug_aranges" else
-                          "DWARF 5, section 6.2.4" if name == ".debug_line" else UNITS)
+            return Reason(f"{unit} of `{name}` is of version {there}, and only {version} is supported", VERSION_NUMBERS)
     return None
 
 
@@ -168,11 +167,20 @@ class Units:
             raise Wrong(f"its addresses have {bytes_of(size)}, not 8", UNITS)
         return offset, fields
 
+    def old_header(self, unit):
+        """The same of a unit of version 2 to 4."""
+        fields = unit.cursor(self.info)
+        if fields.number(2, "the version") not in (2, 3, 4):
+            return None
+        offset = fields.number(4, "the offset of its abbreviations")
+        fields.take(1, "the address size")
+        return offset, fields
+
     def words(self, unit):
         """A unit by its offset, and by the name of its source file if its first entry has one that can be read."""
         name = None
         try:
-            offset, fields = self.header(unit)
+            offset, fields = self.old_header(unit) or self.header(unit)
             place = fields.at
             first = self.entry(fields, place, fields.uleb("a code"), self.table(offset), offset)
             form, value = next((it[1:] for it in first.attributes if it[0] == NAME), (0, 0))
