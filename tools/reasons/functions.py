@@ -2,9 +2,10 @@
 import bisect
 
 from reasons import reloc_names as rel
-from reasons.code import AUIPC, JAL, Code, immediate_i, target_of, upper_immediate, what_else
+from reasons.code import Code
 from reasons.found import Reason, bytes_of, listed
 from reasons.frames import exception_entry
+from reasons.isa import AUIPC, JAL, immediate_i, is_instruction, target_of, upper_immediate, what_else
 
 MOST_NAMES = 5
 RVC = 1  # of e_flags
@@ -44,6 +45,8 @@ def bad_instruction(image, place, _):
         return Reason(f"the instruction {shown} at {place:x} ({where}) has two bytes, and e_flags (0) has no flag RVC, "
                       "so the file has no such instructions", 'psABI, "File Header"',
                       "constants in `.text`, or a part that was compiled with another `-march`")
+    if is_instruction(word, size):
+        return None
     return Reason(f"the instruction {shown} at {place:x} ({where}) isn't one of "
                   f"RV64I{'MC' if image.head.flags & 1 else 'M'}: by its opcode it is {what_else(word, size)}",
                   "ISA manual, chapter \"RV32/64G Instruction Set Listings\" and \"C\"", helps_with(word, size))
@@ -63,6 +66,8 @@ def bare_auipc(image, place, _):
     if code.full_at(place, AUIPC) is None:
         return None
     section, here = image.section_at(place), image.relocations_at(place)
+    if any(it.kind in rel.CALLS | rel.UPPER for it in here):
+        return None
     of_code = [it for it in image.relocations if it.section == section]
     if here:
         why = f"only {listed(sorted({rel.name(it.kind) for it in here}))}, which doesn't say it"

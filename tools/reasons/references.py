@@ -1,9 +1,10 @@
 """Relocations that don't fit, and files that select routines or were rewritten: the faults 9 to 14 (psABI,
 "Relocations")."""
 from reasons import reloc_names as rel
-from reasons.code import AUIPC, JALR, LUI, Code, hi20, immediate_i, immediate_s, lo12, upper_immediate
+from reasons.code import Code
 from reasons.found import Reason
 from reasons.image import STT_GNU_IFUNC
+from reasons.isa import AUIPC, JALR, LUI, hi20, immediate_i, immediate_s, lo12, upper_immediate
 
 RELOCATIONS, CALLS = 'psABI, "Relocations"', 'psABI, "Procedure Calls"'
 PC_RELATIVE, ABSOLUTE = 'psABI, "PC-Relative Symbol Addresses"', 'psABI, "Absolute Addresses"'
