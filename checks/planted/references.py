@@ -85,7 +85,7 @@ def differences():
                                                  ("uleb", 60, 61, 1, "LEB128 number is 63")):
         made = program(NOP)
         at = made.load(".rodata", number(0x63, size))
-        made.relocate(at, added, 1, 8, section=2).relocate(at, subtracted, 1, section=2)
+        made.relocate(at, subtracted, 1, section=2).relocate(at, added, 1, 8, section=2)
         yield Planted(name, made.bytes(), f"RelocMismatch at {at:x}", (f"{START + 8:x} from {START:x}, 8", words))
     made = program(NOP)
     at = made.load(".rodata", bytes(4))

@@ -186,9 +186,9 @@ class Image(ElfFile):
         return None if None in found else int.from_bytes(bytes(found), "little")
 
     def section_at(self, address):
-        """A section that is loaded at an address, one with code first."""
-        return next((it for it in self.code_sections + self.sections
-                     if it.flags & SHF_ALLOC and it.address <= address < it.address + it.size), None)
+        """A section with code at an address, or else one that is loaded there."""
+        loaded = [it for it in self.sections if it.flags & SHF_ALLOC]
+        return next((it for it in self.code_sections + loaded if it.address <= address < it.address + it.size), None)
 
     @functools.cached_property
     def _functions(self):

@@ -190,6 +190,8 @@ class References:
         if width is None or not self.is_code_label(self.label(r)):
             return None
         plus, minus = self.pair_at(r.place, width)
+        if len(plus) == len(minus) == 1:
+            return None
         return (f"has the code address {self.label(r):x}, and isn't one of a pair: at its place {len(plus)} "
                 f"relocations of its width add or set a label, and {len(minus)} subtract one", RELOCATIONS)
 
