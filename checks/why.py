@@ -1,14 +1,15 @@
 #!/usr/bin/env python3
 """Whether `tools/why.py` names what is wrong with a file: for each fault files are made in which it was planted.
 
-    python3 checks/why.py [--tool COMMAND] [--keep FOLDER] [NAME..]
+    python3 checks/why.py [--tool COMMAND] [--keep FOLDER] [--changed COUNT] [NAME..]
 
-COMMAND stands for `./sudrepka`. The files of `planted/` have one fault each, in all ways that its definition has; some
-are refused for each of the 28 faults, but for limits of names and tables, which only large files pass. Each has to be
-refused by the line that was planted, with its place, and `why.py` has to say what was planted: which structure, field,
-number or instruction. Lines that name no fault, places at which nothing is wrong, and files that aren't there have to
-end in a sentence and a status. NAME picks files. FOLDER keeps them. A line for each problem says what was found, and
-the status is 0 if there is none. Nothing is done, and that is said, if there is no program.
+COMMAND stands for `./sudrepka`. The files of `planted/` have one fault each: all 28 faults in the ways that their
+definitions have, but for the limits on a profile, on MAP and on weights. Each has to be refused by the line that was
+planted, with its place, and `why.py` has to say what was planted: which structure, field, number or instruction. Lines
+that name no fault, places at which nothing is wrong, and files that aren't there have to end in a sentence and a
+status. Of COUNT programs of `fuzzed/` with some fields changed (200 if none is given) each that is refused has to get a
+cause, and in none that isn't refused may one be found. NAME picks files. FOLDER keeps them. A line for each problem
+says what was found, and the status is 0 if there is none. Nothing is done, and that is said, if there is no program.
 """
 import argparse
 import contextlib
@@ -21,7 +22,7 @@ import tempfile
 ROOT = os.path.dirname(os.path.dirname(os.path.abspath(__file__)))
 sys.path.insert(0, os.path.join(ROOT, "tools"))
 import why  # noqa: E402, of tools/
-from planted import debug, frames, functions, headers, large, references  # noqa: E402
+from planted import changed, debug, frames, functions, headers, large, references  # noqa: E402
 from program_graph import Failure, find_tool  # noqa: E402
 
 WHY = os.path.join(ROOT, "tools", "why.py")
@@ -85,6 +86,7 @@ def main():
     words = argparse.ArgumentParser(description="whether tools/why.py names what is wrong with a file")
     words.add_argument("--tool", metavar="COMMAND", help="the command that takes `map ..`; else ./sudrepka")
     words.add_argument("--keep", metavar="FOLDER", help="keeps the files")
+    words.add_argument("--changed", metavar="COUNT", type=int, default=200, help="files with some fields changed")
     words.add_argument("names", metavar="NAME", nargs="*", help="files that are tried; else all")
     given = words.parse_args()
     try:
@@ -99,7 +101,9 @@ def main():
         for planted in (it for kind in KINDS for it in kind.all_files() if it.name in (given.names or [it.name])):
             count += 1
             found += [f"{planted.name}: {it}" for it in problems_of(planted, tool, folder)]
-        found += other_problems(tool, folder) if not given.names else []
+        if not given.names:
+            count += given.changed
+            found += [*other_problems(tool, folder), *changed.problems(tool, folder, given.changed)]
     print(*found, f"{count} files: {len(found) or 'no'} problems", sep="\n")
     return 1 if found else 0
 
