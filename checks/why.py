@@ -3,13 +3,14 @@
 
     python3 checks/why.py [--tool COMMAND] [--keep FOLDER] [--changed COUNT] [NAME..]
 
-COMMAND stands for `./sudrepka`. The files of `planted/` have one fault each: all 28 faults in the ways that their
-definitions have, but for the limits on a profile, on MAP and on weights. Each has to be refused by the line that was
-planted, with its place, and `why.py` has to say what was planted: which structure, field, number or instruction. Lines
-that name no fault, places at which nothing is wrong, and files that aren't there have to end in a sentence and a
-status. Of COUNT programs of `fuzzed/` with some fields changed (200 if none is given) each that is refused has to get a
-cause, and in none that isn't refused may one be found. NAME picks files. FOLDER keeps them. A line for each problem
-says what was found, and the status is 0 if there is none. Nothing is done, and that is said, if there is no program.
+COMMAND stands for the program of this checkout, which isn't built here. The files of `planted/` have one fault each:
+all 28 faults in the ways that their definitions have, but for the limits on a profile, on MAP and on weights. Each has
+to be refused by the line that was planted, with its place, and `why.py` has to say what was planted: which structure,
+field, number or instruction. Lines that name no fault, places at which nothing is wrong, and files that aren't there
+have to end in a sentence and a status. Of COUNT programs of `fuzzed/` with some fields changed (200 if none is given)
+each that is refused has to get a cause, and in none that isn't refused may one be found. NAME picks files. FOLDER keeps
+them. A line for each problem says what was found, and the status is 0 if there is none. Nothing is done, and that is
+said, if there is no program.
 """
 import argparse
 import contextlib
@@ -26,6 +27,7 @@ from planted import changed, debug, frames, functions, headers, large, reference
 from program_graph import Failure, find_tool  # noqa: E402
 
 WHY = os.path.join(ROOT, "tools", "why.py")
+PROGRAM = os.path.join(ROOT, "crates", "bolt_cli", "out", "bolt_cli")
 KINDS = (headers, references, functions, frames, debug, large)
 FOUND, FAILED, UNKNOWN = 0, 1, 3
 
@@ -84,13 +86,16 @@ def other_problems(tool, folder):
 
 def main():
     words = argparse.ArgumentParser(description="whether tools/why.py names what is wrong with a file")
-    words.add_argument("--tool", metavar="COMMAND", help="the command that takes `map ..`; else ./sudrepka")
+    words.add_argument("--tool", metavar="COMMAND", help="the command that takes `map ..`; else the built program")
     words.add_argument("--keep", metavar="FOLDER", help="keeps the files")
     words.add_argument("--changed", metavar="COUNT", type=int, default=200, help="files with some fields changed")
     words.add_argument("names", metavar="NAME", nargs="*", help="files that are tried; else all")
     given = words.parse_args()
+    if given.tool is None and not os.path.isfile(PROGRAM):
+        print("left out: the program isn't built")
+        return 0
     try:
-        tool = find_tool(given.tool)
+        tool = find_tool(given.tool or PROGRAM)
     except Failure as failure:
         print(f"left out: {failure}")
         return 0
