@@ -16,14 +16,14 @@ use std::collections::BinaryHeap;
 /// Distances of nodes from the nearest node that needs flow.
 #[derive(Drop)]
 pub struct Distances {
-    /// The distance of each node. For a node farther away than `nearest` it is only some number that is at least
-    /// `nearest`.
+    /// The distance of each node. For a node farther away than `farthest` it is only some number that is at least
+    /// `farthest`.
     pub of_nodes: Vec<u64>,
-    /// The distance of the nearest node with spare flow, or `u64::MAX` if none can be reached.
-    pub nearest: u64,
+    /// The distance of the farthest node with spare flow, or `u64::MAX` if none can be reached.
+    pub farthest: u64,
 }
 
-/// Dijkstra's search, from the nodes that need flow back to the nearest one with spare flow.
+/// Dijkstra's search, from the nodes that need flow back to all nodes with spare flow.
 pub fn find_distances(alloc: Global, network: &Network<'_>) -> Result<Distances, NoMemory>
     requires { IsNetwork network.now }
     ensures { IfOk result (λ d. length d.of_nodes.items ≡ length network.now.heights.now) }
@@ -31,33 +31,37 @@ pub fn find_distances(alloc: Global, network: &Network<'_>) -> Result<Distances,
     let nodes = network.heights.len();
     let mut of_nodes = vec![in alloc; u64::MAX; nodes]?;
     let mut queue = BinaryHeap::new(alloc);
+    // The number of nodes with spare flow that aren't found yet.
+    let mut missing = 0usize;
     for n in 0..nodes {
         if network.need[n] > 0 {
             of_nodes[n] = 0;
             push_node(&mut queue, 0, n)?;
         }
+        if network.spare[n] > 0 {
+            missing = missing.saturating_add(1);
+        }
     }
+    let mut farthest = u64::MAX;
     // The bound is only there for the prover; memory runs out long before.
     for _ in 0..u64::MAX {
         let Some((distance, n)) = pop_node(&mut queue) else {
             break;
         };
-        if network.spare[n] > 0 {
-            return Ok(Distances {
-                of_nodes,
-                nearest: distance,
-            });
-        }
         if distance > of_nodes[n] {
             continue;
+        }
+        if network.spare[n] > 0 {
+            farthest = distance;
+            missing = missing.saturating_sub(1);
+            if missing == 0 {
+                break;
+            }
         }
         let arcs = &network.around[n];
         queue_sources(&mut queue, &mut of_nodes, network, arcs, distance)?;
     }
-    Ok(Distances {
-        of_nodes,
-        nearest: u64::MAX,
-    })
+    Ok(Distances { of_nodes, farthest })
 }
 
 // Queues the nodes that get nearer by way of a node at `distance`, whose arcs are `arcs`.

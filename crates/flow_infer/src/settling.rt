@@ -116,7 +116,7 @@ fn round(
         first,
         links,
         &distances.of_nodes,
-        distances.nearest,
+        distances.farthest,
     )?;
     Ok(Progress::Raised)
 }
