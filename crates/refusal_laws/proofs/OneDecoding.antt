@@ -1,5 +1,6 @@
 -- The bytes of an instruction are the bytes of no other one: the listings of the ISA manual have no two rows that overlap.
-use Rattle.std.proofs.Common.{◌≡◌, ◌∙◌, sym, ap, ℕ, ◌*◌, ◌+◌, ◌^◌, Bool, true, false, Option, None, Some, arith, inl, inr, if◌then◌else◌}
+use Rattle.std.proofs.Common.{◌≡◌, ◌∙◌, sym, ap, ℕ, ℤ, ◌*◌, ◌+◌}
+use Rattle.std.proofs.Common.{◌^◌, Bool, true, false, Option, None, Some, arith, inl, inr, if◌then◌else◌}
 use Rattle.std.specs.Prelude.{◌≢◌, ◌==◌, IsSomeAnd, pos}
 use Rattle.std.proofs.lemmas.Bool.Decides.{nat_tests}
 use Rattle.rv_code.specs.declared.inst.Inst.{Inst}
@@ -11,7 +12,7 @@ use Rattle.rv_code.specs.declared.inst.Inst.TheVariants.{Addiw, Slliw, Srliw, Sr
 use Rattle.rv_code.specs.declared.inst.Inst.TheVariants.{Mul, Mulh, Mulhsu, Mulhu, Div, Divu, Rem, Remu, Mulw, Divw}
 use Rattle.rv_code.specs.declared.inst.Inst.TheVariants.{Divuw, Remw, Remuw}
 use Rattle.rv_code.specs.isa.Bits.{field, imm_b, imm_i, imm_j, imm_s, imm_u}
-use Rattle.rv_code.specs.isa.FullRows.{IsFull}
+use Rattle.rv_code.specs.isa.FullRows.{FormatB, FormatI, FormatJ, FormatR, FormatS, FormatU, IsFull, Shift32, Shift64}
 use Rattle.rv_code.specs.isa.HalfRows.{IsHalf, Matches, Row, expansion, rd, rs2}
 use Rattle.rv_code.specs.isa.HalfRows as row
 use Rattle.rv_code.specs.isa.InstBytes.{Decodes}
@@ -137,135 +138,113 @@ by_opcode word opcode funct3 funct6 funct7 =
 abbrev full_inst : ℕ → Inst
 full_inst word = by_opcode word (field word 0 7) (field word 12 3) (field word 26 6) (field word 25 7)
 
+-- by the fields of each format
+by_u : {word opcode rd : ℕ} {imm : ℤ} → FormatU word opcode rd imm →
+    full_inst word ≡ by_opcode word opcode (field word 12 3) (field word 26 6) (field word 25 7)
+by_u {word} f = λ i.
+    by_opcode word (f.opcode_is i) (field word 12 3) (field word 26 6) (field word 25 7)
+
+by_j : {word opcode rd : ℕ} {imm : ℤ} → FormatJ word opcode rd imm →
+    full_inst word ≡ by_opcode word opcode (field word 12 3) (field word 26 6) (field word 25 7)
+by_j {word} f = λ i.
+    by_opcode word (f.opcode_is i) (field word 12 3) (field word 26 6) (field word 25 7)
+
+by_i : {word opcode funct3 rd rs1 : ℕ} {imm : ℤ} → FormatI word opcode funct3 rd rs1 imm →
+    full_inst word ≡ by_opcode word opcode funct3 (field word 26 6) (field word 25 7)
+by_i {word} f = λ i.
+    by_opcode word (f.opcode_is i) (f.funct3_is i) (field word 26 6) (field word 25 7)
+
+by_s : {word opcode funct3 rs1 rs2 : ℕ} {imm : ℤ} → FormatS word opcode funct3 rs1 rs2 imm →
+    full_inst word ≡ by_opcode word opcode funct3 (field word 26 6) (field word 25 7)
+by_s {word} f = λ i.
+    by_opcode word (f.opcode_is i) (f.funct3_is i) (field word 26 6) (field word 25 7)
+
+by_b : {word opcode funct3 rs1 rs2 : ℕ} {imm : ℤ} → FormatB word opcode funct3 rs1 rs2 imm →
+    full_inst word ≡ by_opcode word opcode funct3 (field word 26 6) (field word 25 7)
+by_b {word} f = λ i.
+    by_opcode word (f.opcode_is i) (f.funct3_is i) (field word 26 6) (field word 25 7)
+
+by_r : {word opcode funct3 funct7 rd rs1 rs2 : ℕ} → FormatR word opcode funct3 funct7 rd rs1 rs2 →
+    full_inst word ≡ by_opcode word opcode funct3 (field word 26 6) funct7
+by_r {word} f = λ i.
+    by_opcode word (f.opcode_is i) (f.funct3_is i) (field word 26 6) (f.funct7_is i)
+
+by_shift64 : {word opcode funct3 funct6 rd rs1 : ℕ} {imm : ℤ} → Shift64 word opcode funct3 funct6 rd rs1 imm →
+    full_inst word ≡ by_opcode word opcode funct3 funct6 (field word 25 7)
+by_shift64 {word} f = λ i.
+    by_opcode word (f.opcode_is i) (f.funct3_is i) (f.funct6_is i) (field word 25 7)
+
+by_shift32 : {word opcode funct3 funct7 rd rs1 : ℕ} {imm : ℤ} → Shift32 word opcode funct3 funct7 rd rs1 imm →
+    full_inst word ≡ by_opcode word opcode funct3 (field word 26 6) funct7
+by_shift32 {word} f = λ i.
+    by_opcode word (f.opcode_is i) (f.funct3_is i) (field word 26 6) (f.funct7_is i)
+
 full_is : (word : ℕ) (inst : Inst) → IsFull word inst → full_inst word ≡ inst
-full_is word (Lui rd imm) f =
-    (λ i. by_opcode word (f.opcode_is i) (field word 12 3) (field word 26 6) (field word 25 7)) ∙ (λ i. Lui (f.rd_is i) (f.imm_is i))
-full_is word (Auipc rd imm) f =
-    (λ i. by_opcode word (f.opcode_is i) (field word 12 3) (field word 26 6) (field word 25 7)) ∙ (λ i. Auipc (f.rd_is i) (f.imm_is i))
-full_is word (Jal rd imm) f =
-    (λ i. by_opcode word (f.opcode_is i) (field word 12 3) (field word 26 6) (field word 25 7)) ∙ (λ i. Jal (f.rd_is i) (f.imm_is i))
-full_is word (Jalr rd rs1 imm) f =
-    (λ i. by_opcode word (f.opcode_is i) (f.funct3_is i) (field word 26 6) (field word 25 7)) ∙ (λ i. Jalr (f.rd_is i) (f.rs1_is i) (f.imm_is i))
-full_is word (Beq rs1 rs2 imm) f =
-    (λ i. by_opcode word (f.opcode_is i) (f.funct3_is i) (field word 26 6) (field word 25 7)) ∙ (λ i. Beq (f.rs1_is i) (f.rs2_is i) (f.imm_is i))
-full_is word (Bne rs1 rs2 imm) f =
-    (λ i. by_opcode word (f.opcode_is i) (f.funct3_is i) (field word 26 6) (field word 25 7)) ∙ (λ i. Bne (f.rs1_is i) (f.rs2_is i) (f.imm_is i))
-full_is word (Blt rs1 rs2 imm) f =
-    (λ i. by_opcode word (f.opcode_is i) (f.funct3_is i) (field word 26 6) (field word 25 7)) ∙ (λ i. Blt (f.rs1_is i) (f.rs2_is i) (f.imm_is i))
-full_is word (Bge rs1 rs2 imm) f =
-    (λ i. by_opcode word (f.opcode_is i) (f.funct3_is i) (field word 26 6) (field word 25 7)) ∙ (λ i. Bge (f.rs1_is i) (f.rs2_is i) (f.imm_is i))
-full_is word (Bltu rs1 rs2 imm) f =
-    (λ i. by_opcode word (f.opcode_is i) (f.funct3_is i) (field word 26 6) (field word 25 7)) ∙ (λ i. Bltu (f.rs1_is i) (f.rs2_is i) (f.imm_is i))
-full_is word (Bgeu rs1 rs2 imm) f =
-    (λ i. by_opcode word (f.opcode_is i) (f.funct3_is i) (field word 26 6) (field word 25 7)) ∙ (λ i. Bgeu (f.rs1_is i) (f.rs2_is i) (f.imm_is i))
-full_is word (Lb rd rs1 imm) f =
-    (λ i. by_opcode word (f.opcode_is i) (f.funct3_is i) (field word 26 6) (field word 25 7)) ∙ (λ i. Lb (f.rd_is i) (f.rs1_is i) (f.imm_is i))
-full_is word (Lh rd rs1 imm) f =
-    (λ i. by_opcode word (f.opcode_is i) (f.funct3_is i) (field word 26 6) (field word 25 7)) ∙ (λ i. Lh (f.rd_is i) (f.rs1_is i) (f.imm_is i))
-full_is word (Lw rd rs1 imm) f =
-    (λ i. by_opcode word (f.opcode_is i) (f.funct3_is i) (field word 26 6) (field word 25 7)) ∙ (λ i. Lw (f.rd_is i) (f.rs1_is i) (f.imm_is i))
-full_is word (Ld rd rs1 imm) f =
-    (λ i. by_opcode word (f.opcode_is i) (f.funct3_is i) (field word 26 6) (field word 25 7)) ∙ (λ i. Ld (f.rd_is i) (f.rs1_is i) (f.imm_is i))
-full_is word (Lbu rd rs1 imm) f =
-    (λ i. by_opcode word (f.opcode_is i) (f.funct3_is i) (field word 26 6) (field word 25 7)) ∙ (λ i. Lbu (f.rd_is i) (f.rs1_is i) (f.imm_is i))
-full_is word (Lhu rd rs1 imm) f =
-    (λ i. by_opcode word (f.opcode_is i) (f.funct3_is i) (field word 26 6) (field word 25 7)) ∙ (λ i. Lhu (f.rd_is i) (f.rs1_is i) (f.imm_is i))
-full_is word (Lwu rd rs1 imm) f =
-    (λ i. by_opcode word (f.opcode_is i) (f.funct3_is i) (field word 26 6) (field word 25 7)) ∙ (λ i. Lwu (f.rd_is i) (f.rs1_is i) (f.imm_is i))
-full_is word (Sb rs1 rs2 imm) f =
-    (λ i. by_opcode word (f.opcode_is i) (f.funct3_is i) (field word 26 6) (field word 25 7)) ∙ (λ i. Sb (f.rs1_is i) (f.rs2_is i) (f.imm_is i))
-full_is word (Sh rs1 rs2 imm) f =
-    (λ i. by_opcode word (f.opcode_is i) (f.funct3_is i) (field word 26 6) (field word 25 7)) ∙ (λ i. Sh (f.rs1_is i) (f.rs2_is i) (f.imm_is i))
-full_is word (Sw rs1 rs2 imm) f =
-    (λ i. by_opcode word (f.opcode_is i) (f.funct3_is i) (field word 26 6) (field word 25 7)) ∙ (λ i. Sw (f.rs1_is i) (f.rs2_is i) (f.imm_is i))
-full_is word (Sd rs1 rs2 imm) f =
-    (λ i. by_opcode word (f.opcode_is i) (f.funct3_is i) (field word 26 6) (field word 25 7)) ∙ (λ i. Sd (f.rs1_is i) (f.rs2_is i) (f.imm_is i))
-full_is word (Addi rd rs1 imm) f =
-    (λ i. by_opcode word (f.opcode_is i) (f.funct3_is i) (field word 26 6) (field word 25 7)) ∙ (λ i. Addi (f.rd_is i) (f.rs1_is i) (f.imm_is i))
-full_is word (Slti rd rs1 imm) f =
-    (λ i. by_opcode word (f.opcode_is i) (f.funct3_is i) (field word 26 6) (field word 25 7)) ∙ (λ i. Slti (f.rd_is i) (f.rs1_is i) (f.imm_is i))
-full_is word (Sltiu rd rs1 imm) f =
-    (λ i. by_opcode word (f.opcode_is i) (f.funct3_is i) (field word 26 6) (field word 25 7)) ∙ (λ i. Sltiu (f.rd_is i) (f.rs1_is i) (f.imm_is i))
-full_is word (Xori rd rs1 imm) f =
-    (λ i. by_opcode word (f.opcode_is i) (f.funct3_is i) (field word 26 6) (field word 25 7)) ∙ (λ i. Xori (f.rd_is i) (f.rs1_is i) (f.imm_is i))
-full_is word (Ori rd rs1 imm) f =
-    (λ i. by_opcode word (f.opcode_is i) (f.funct3_is i) (field word 26 6) (field word 25 7)) ∙ (λ i. Ori (f.rd_is i) (f.rs1_is i) (f.imm_is i))
-full_is word (Andi rd rs1 imm) f =
-    (λ i. by_opcode word (f.opcode_is i) (f.funct3_is i) (field word 26 6) (field word 25 7)) ∙ (λ i. Andi (f.rd_is i) (f.rs1_is i) (f.imm_is i))
-full_is word (Slli rd rs1 imm) f =
-    (λ i. by_opcode word (f.opcode_is i) (f.funct3_is i) (f.funct6_is i) (field word 25 7)) ∙ (λ i. Slli (f.rd_is i) (f.rs1_is i) (f.amount_is i))
-full_is word (Srli rd rs1 imm) f =
-    (λ i. by_opcode word (f.opcode_is i) (f.funct3_is i) (f.funct6_is i) (field word 25 7)) ∙ (λ i. Srli (f.rd_is i) (f.rs1_is i) (f.amount_is i))
-full_is word (Srai rd rs1 imm) f =
-    (λ i. by_opcode word (f.opcode_is i) (f.funct3_is i) (f.funct6_is i) (field word 25 7)) ∙ (λ i. Srai (f.rd_is i) (f.rs1_is i) (f.amount_is i))
-full_is word (Add rd rs1 rs2) f =
-    (λ i. by_opcode word (f.opcode_is i) (f.funct3_is i) (field word 26 6) (f.funct7_is i)) ∙ (λ i. Add (f.rd_is i) (f.rs1_is i) (f.rs2_is i))
-full_is word (Sub rd rs1 rs2) f =
-    (λ i. by_opcode word (f.opcode_is i) (f.funct3_is i) (field word 26 6) (f.funct7_is i)) ∙ (λ i. Sub (f.rd_is i) (f.rs1_is i) (f.rs2_is i))
-full_is word (Sll rd rs1 rs2) f =
-    (λ i. by_opcode word (f.opcode_is i) (f.funct3_is i) (field word 26 6) (f.funct7_is i)) ∙ (λ i. Sll (f.rd_is i) (f.rs1_is i) (f.rs2_is i))
-full_is word (Slt rd rs1 rs2) f =
-    (λ i. by_opcode word (f.opcode_is i) (f.funct3_is i) (field word 26 6) (f.funct7_is i)) ∙ (λ i. Slt (f.rd_is i) (f.rs1_is i) (f.rs2_is i))
-full_is word (Sltu rd rs1 rs2) f =
-    (λ i. by_opcode word (f.opcode_is i) (f.funct3_is i) (field word 26 6) (f.funct7_is i)) ∙ (λ i. Sltu (f.rd_is i) (f.rs1_is i) (f.rs2_is i))
-full_is word (Xor rd rs1 rs2) f =
-    (λ i. by_opcode word (f.opcode_is i) (f.funct3_is i) (field word 26 6) (f.funct7_is i)) ∙ (λ i. Xor (f.rd_is i) (f.rs1_is i) (f.rs2_is i))
-full_is word (Srl rd rs1 rs2) f =
-    (λ i. by_opcode word (f.opcode_is i) (f.funct3_is i) (field word 26 6) (f.funct7_is i)) ∙ (λ i. Srl (f.rd_is i) (f.rs1_is i) (f.rs2_is i))
-full_is word (Sra rd rs1 rs2) f =
-    (λ i. by_opcode word (f.opcode_is i) (f.funct3_is i) (field word 26 6) (f.funct7_is i)) ∙ (λ i. Sra (f.rd_is i) (f.rs1_is i) (f.rs2_is i))
-full_is word (Or rd rs1 rs2) f =
-    (λ i. by_opcode word (f.opcode_is i) (f.funct3_is i) (field word 26 6) (f.funct7_is i)) ∙ (λ i. Or (f.rd_is i) (f.rs1_is i) (f.rs2_is i))
-full_is word (And rd rs1 rs2) f =
-    (λ i. by_opcode word (f.opcode_is i) (f.funct3_is i) (field word 26 6) (f.funct7_is i)) ∙ (λ i. And (f.rd_is i) (f.rs1_is i) (f.rs2_is i))
-full_is word (Fence rd rs1 imm) f =
-    (λ i. by_opcode word (f.opcode_is i) (f.funct3_is i) (field word 26 6) (field word 25 7)) ∙ (λ i. Fence (f.rd_is i) (f.rs1_is i) (f.imm_is i))
+full_is word (Lui rd imm) f = by_u f ∙ (λ i. Lui (f.rd_is i) (f.imm_is i))
+full_is word (Auipc rd imm) f = by_u f ∙ (λ i. Auipc (f.rd_is i) (f.imm_is i))
+full_is word (Jal rd imm) f = by_j f ∙ (λ i. Jal (f.rd_is i) (f.imm_is i))
+full_is word (Jalr rd rs1 imm) f = by_i f ∙ (λ i. Jalr (f.rd_is i) (f.rs1_is i) (f.imm_is i))
+full_is word (Beq rs1 rs2 imm) f = by_b f ∙ (λ i. Beq (f.rs1_is i) (f.rs2_is i) (f.imm_is i))
+full_is word (Bne rs1 rs2 imm) f = by_b f ∙ (λ i. Bne (f.rs1_is i) (f.rs2_is i) (f.imm_is i))
+full_is word (Blt rs1 rs2 imm) f = by_b f ∙ (λ i. Blt (f.rs1_is i) (f.rs2_is i) (f.imm_is i))
+full_is word (Bge rs1 rs2 imm) f = by_b f ∙ (λ i. Bge (f.rs1_is i) (f.rs2_is i) (f.imm_is i))
+full_is word (Bltu rs1 rs2 imm) f = by_b f ∙ (λ i. Bltu (f.rs1_is i) (f.rs2_is i) (f.imm_is i))
+full_is word (Bgeu rs1 rs2 imm) f = by_b f ∙ (λ i. Bgeu (f.rs1_is i) (f.rs2_is i) (f.imm_is i))
+full_is word (Lb rd rs1 imm) f = by_i f ∙ (λ i. Lb (f.rd_is i) (f.rs1_is i) (f.imm_is i))
+full_is word (Lh rd rs1 imm) f = by_i f ∙ (λ i. Lh (f.rd_is i) (f.rs1_is i) (f.imm_is i))
+full_is word (Lw rd rs1 imm) f = by_i f ∙ (λ i. Lw (f.rd_is i) (f.rs1_is i) (f.imm_is i))
+full_is word (Ld rd rs1 imm) f = by_i f ∙ (λ i. Ld (f.rd_is i) (f.rs1_is i) (f.imm_is i))
+full_is word (Lbu rd rs1 imm) f = by_i f ∙ (λ i. Lbu (f.rd_is i) (f.rs1_is i) (f.imm_is i))
+full_is word (Lhu rd rs1 imm) f = by_i f ∙ (λ i. Lhu (f.rd_is i) (f.rs1_is i) (f.imm_is i))
+full_is word (Lwu rd rs1 imm) f = by_i f ∙ (λ i. Lwu (f.rd_is i) (f.rs1_is i) (f.imm_is i))
+full_is word (Sb rs1 rs2 imm) f = by_s f ∙ (λ i. Sb (f.rs1_is i) (f.rs2_is i) (f.imm_is i))
+full_is word (Sh rs1 rs2 imm) f = by_s f ∙ (λ i. Sh (f.rs1_is i) (f.rs2_is i) (f.imm_is i))
+full_is word (Sw rs1 rs2 imm) f = by_s f ∙ (λ i. Sw (f.rs1_is i) (f.rs2_is i) (f.imm_is i))
+full_is word (Sd rs1 rs2 imm) f = by_s f ∙ (λ i. Sd (f.rs1_is i) (f.rs2_is i) (f.imm_is i))
+full_is word (Addi rd rs1 imm) f = by_i f ∙ (λ i. Addi (f.rd_is i) (f.rs1_is i) (f.imm_is i))
+full_is word (Slti rd rs1 imm) f = by_i f ∙ (λ i. Slti (f.rd_is i) (f.rs1_is i) (f.imm_is i))
+full_is word (Sltiu rd rs1 imm) f = by_i f ∙ (λ i. Sltiu (f.rd_is i) (f.rs1_is i) (f.imm_is i))
+full_is word (Xori rd rs1 imm) f = by_i f ∙ (λ i. Xori (f.rd_is i) (f.rs1_is i) (f.imm_is i))
+full_is word (Ori rd rs1 imm) f = by_i f ∙ (λ i. Ori (f.rd_is i) (f.rs1_is i) (f.imm_is i))
+full_is word (Andi rd rs1 imm) f = by_i f ∙ (λ i. Andi (f.rd_is i) (f.rs1_is i) (f.imm_is i))
+full_is word (Slli rd rs1 imm) f = by_shift64 f ∙ (λ i. Slli (f.rd_is i) (f.rs1_is i) (f.amount_is i))
+full_is word (Srli rd rs1 imm) f = by_shift64 f ∙ (λ i. Srli (f.rd_is i) (f.rs1_is i) (f.amount_is i))
+full_is word (Srai rd rs1 imm) f = by_shift64 f ∙ (λ i. Srai (f.rd_is i) (f.rs1_is i) (f.amount_is i))
+full_is word (Add rd rs1 rs2) f = by_r f ∙ (λ i. Add (f.rd_is i) (f.rs1_is i) (f.rs2_is i))
+full_is word (Sub rd rs1 rs2) f = by_r f ∙ (λ i. Sub (f.rd_is i) (f.rs1_is i) (f.rs2_is i))
+full_is word (Sll rd rs1 rs2) f = by_r f ∙ (λ i. Sll (f.rd_is i) (f.rs1_is i) (f.rs2_is i))
+full_is word (Slt rd rs1 rs2) f = by_r f ∙ (λ i. Slt (f.rd_is i) (f.rs1_is i) (f.rs2_is i))
+full_is word (Sltu rd rs1 rs2) f = by_r f ∙ (λ i. Sltu (f.rd_is i) (f.rs1_is i) (f.rs2_is i))
+full_is word (Xor rd rs1 rs2) f = by_r f ∙ (λ i. Xor (f.rd_is i) (f.rs1_is i) (f.rs2_is i))
+full_is word (Srl rd rs1 rs2) f = by_r f ∙ (λ i. Srl (f.rd_is i) (f.rs1_is i) (f.rs2_is i))
+full_is word (Sra rd rs1 rs2) f = by_r f ∙ (λ i. Sra (f.rd_is i) (f.rs1_is i) (f.rs2_is i))
+full_is word (Or rd rs1 rs2) f = by_r f ∙ (λ i. Or (f.rd_is i) (f.rs1_is i) (f.rs2_is i))
+full_is word (And rd rs1 rs2) f = by_r f ∙ (λ i. And (f.rd_is i) (f.rs1_is i) (f.rs2_is i))
+full_is word (Fence rd rs1 imm) f = by_i f ∙ (λ i. Fence (f.rd_is i) (f.rs1_is i) (f.imm_is i))
 full_is word Ecall f = ap full_inst f
 full_is word Ebreak f = ap full_inst f
-full_is word (Addiw rd rs1 imm) f =
-    (λ i. by_opcode word (f.opcode_is i) (f.funct3_is i) (field word 26 6) (field word 25 7)) ∙ (λ i. Addiw (f.rd_is i) (f.rs1_is i) (f.imm_is i))
-full_is word (Slliw rd rs1 imm) f =
-    (λ i. by_opcode word (f.opcode_is i) (f.funct3_is i) (field word 26 6) (f.funct7_is i)) ∙ (λ i. Slliw (f.rd_is i) (f.rs1_is i) (f.amount_is i))
-full_is word (Srliw rd rs1 imm) f =
-    (λ i. by_opcode word (f.opcode_is i) (f.funct3_is i) (field word 26 6) (f.funct7_is i)) ∙ (λ i. Srliw (f.rd_is i) (f.rs1_is i) (f.amount_is i))
-full_is word (Sraiw rd rs1 imm) f =
-    (λ i. by_opcode word (f.opcode_is i) (f.funct3_is i) (field word 26 6) (f.funct7_is i)) ∙ (λ i. Sraiw (f.rd_is i) (f.rs1_is i) (f.amount_is i))
-full_is word (Addw rd rs1 rs2) f =
-    (λ i. by_opcode word (f.opcode_is i) (f.funct3_is i) (field word 26 6) (f.funct7_is i)) ∙ (λ i. Addw (f.rd_is i) (f.rs1_is i) (f.rs2_is i))
-full_is word (Subw rd rs1 rs2) f =
-    (λ i. by_opcode word (f.opcode_is i) (f.funct3_is i) (field word 26 6) (f.funct7_is i)) ∙ (λ i. Subw (f.rd_is i) (f.rs1_is i) (f.rs2_is i))
-full_is word (Sllw rd rs1 rs2) f =
-    (λ i. by_opcode word (f.opcode_is i) (f.funct3_is i) (field word 26 6) (f.funct7_is i)) ∙ (λ i. Sllw (f.rd_is i) (f.rs1_is i) (f.rs2_is i))
-full_is word (Srlw rd rs1 rs2) f =
-    (λ i. by_opcode word (f.opcode_is i) (f.funct3_is i) (field word 26 6) (f.funct7_is i)) ∙ (λ i. Srlw (f.rd_is i) (f.rs1_is i) (f.rs2_is i))
-full_is word (Sraw rd rs1 rs2) f =
-    (λ i. by_opcode word (f.opcode_is i) (f.funct3_is i) (field word 26 6) (f.funct7_is i)) ∙ (λ i. Sraw (f.rd_is i) (f.rs1_is i) (f.rs2_is i))
-full_is word (Mul rd rs1 rs2) f =
-    (λ i. by_opcode word (f.opcode_is i) (f.funct3_is i) (field word 26 6) (f.funct7_is i)) ∙ (λ i. Mul (f.rd_is i) (f.rs1_is i) (f.rs2_is i))
-full_is word (Mulh rd rs1 rs2) f =
-    (λ i. by_opcode word (f.opcode_is i) (f.funct3_is i) (field word 26 6) (f.funct7_is i)) ∙ (λ i. Mulh (f.rd_is i) (f.rs1_is i) (f.rs2_is i))
-full_is word (Mulhsu rd rs1 rs2) f =
-    (λ i. by_opcode word (f.opcode_is i) (f.funct3_is i) (field word 26 6) (f.funct7_is i)) ∙ (λ i. Mulhsu (f.rd_is i) (f.rs1_is i) (f.rs2_is i))
-full_is word (Mulhu rd rs1 rs2) f =
-    (λ i. by_opcode word (f.opcode_is i) (f.funct3_is i) (field word 26 6) (f.funct7_is i)) ∙ (λ i. Mulhu (f.rd_is i) (f.rs1_is i) (f.rs2_is i))
-full_is word (Div rd rs1 rs2) f =
-    (λ i. by_opcode word (f.opcode_is i) (f.funct3_is i) (field word 26 6) (f.funct7_is i)) ∙ (λ i. Div (f.rd_is i) (f.rs1_is i) (f.rs2_is i))
-full_is word (Divu rd rs1 rs2) f =
-    (λ i. by_opcode word (f.opcode_is i) (f.funct3_is i) (field word 26 6) (f.funct7_is i)) ∙ (λ i. Divu (f.rd_is i) (f.rs1_is i) (f.rs2_is i))
-full_is word (Rem rd rs1 rs2) f =
-    (λ i. by_opcode word (f.opcode_is i) (f.funct3_is i) (field word 26 6) (f.funct7_is i)) ∙ (λ i. Rem (f.rd_is i) (f.rs1_is i) (f.rs2_is i))
-full_is word (Remu rd rs1 rs2) f =
-    (λ i. by_opcode word (f.opcode_is i) (f.funct3_is i) (field word 26 6) (f.funct7_is i)) ∙ (λ i. Remu (f.rd_is i) (f.rs1_is i) (f.rs2_is i))
-full_is word (Mulw rd rs1 rs2) f =
-    (λ i. by_opcode word (f.opcode_is i) (f.funct3_is i) (field word 26 6) (f.funct7_is i)) ∙ (λ i. Mulw (f.rd_is i) (f.rs1_is i) (f.rs2_is i))
-full_is word (Divw rd rs1 rs2) f =
-    (λ i. by_opcode word (f.opcode_is i) (f.funct3_is i) (field word 26 6) (f.funct7_is i)) ∙ (λ i. Divw (f.rd_is i) (f.rs1_is i) (f.rs2_is i))
-full_is word (Divuw rd rs1 rs2) f =
-    (λ i. by_opcode word (f.opcode_is i) (f.funct3_is i) (field word 26 6) (f.funct7_is i)) ∙ (λ i. Divuw (f.rd_is i) (f.rs1_is i) (f.rs2_is i))
-full_is word (Remw rd rs1 rs2) f =
-    (λ i. by_opcode word (f.opcode_is i) (f.funct3_is i) (field word 26 6) (f.funct7_is i)) ∙ (λ i. Remw (f.rd_is i) (f.rs1_is i) (f.rs2_is i))
-full_is word (Remuw rd rs1 rs2) f =
-    (λ i. by_opcode word (f.opcode_is i) (f.funct3_is i) (field word 26 6) (f.funct7_is i)) ∙ (λ i. Remuw (f.rd_is i) (f.rs1_is i) (f.rs2_is i))
+full_is word (Addiw rd rs1 imm) f = by_i f ∙ (λ i. Addiw (f.rd_is i) (f.rs1_is i) (f.imm_is i))
+full_is word (Slliw rd rs1 imm) f = by_shift32 f ∙ (λ i. Slliw (f.rd_is i) (f.rs1_is i) (f.amount_is i))
+full_is word (Srliw rd rs1 imm) f = by_shift32 f ∙ (λ i. Srliw (f.rd_is i) (f.rs1_is i) (f.amount_is i))
+full_is word (Sraiw rd rs1 imm) f = by_shift32 f ∙ (λ i. Sraiw (f.rd_is i) (f.rs1_is i) (f.amount_is i))
+full_is word (Addw rd rs1 rs2) f = by_r f ∙ (λ i. Addw (f.rd_is i) (f.rs1_is i) (f.rs2_is i))
+full_is word (Subw rd rs1 rs2) f = by_r f ∙ (λ i. Subw (f.rd_is i) (f.rs1_is i) (f.rs2_is i))
+full_is word (Sllw rd rs1 rs2) f = by_r f ∙ (λ i. Sllw (f.rd_is i) (f.rs1_is i) (f.rs2_is i))
+full_is word (Srlw rd rs1 rs2) f = by_r f ∙ (λ i. Srlw (f.rd_is i) (f.rs1_is i) (f.rs2_is i))
+full_is word (Sraw rd rs1 rs2) f = by_r f ∙ (λ i. Sraw (f.rd_is i) (f.rs1_is i) (f.rs2_is i))
+full_is word (Mul rd rs1 rs2) f = by_r f ∙ (λ i. Mul (f.rd_is i) (f.rs1_is i) (f.rs2_is i))
+full_is word (Mulh rd rs1 rs2) f = by_r f ∙ (λ i. Mulh (f.rd_is i) (f.rs1_is i) (f.rs2_is i))
+full_is word (Mulhsu rd rs1 rs2) f = by_r f ∙ (λ i. Mulhsu (f.rd_is i) (f.rs1_is i) (f.rs2_is i))
+full_is word (Mulhu rd rs1 rs2) f = by_r f ∙ (λ i. Mulhu (f.rd_is i) (f.rs1_is i) (f.rs2_is i))
+full_is word (Div rd rs1 rs2) f = by_r f ∙ (λ i. Div (f.rd_is i) (f.rs1_is i) (f.rs2_is i))
+full_is word (Divu rd rs1 rs2) f = by_r f ∙ (λ i. Divu (f.rd_is i) (f.rs1_is i) (f.rs2_is i))
+full_is word (Rem rd rs1 rs2) f = by_r f ∙ (λ i. Rem (f.rd_is i) (f.rs1_is i) (f.rs2_is i))
+full_is word (Remu rd rs1 rs2) f = by_r f ∙ (λ i. Remu (f.rd_is i) (f.rs1_is i) (f.rs2_is i))
+full_is word (Mulw rd rs1 rs2) f = by_r f ∙ (λ i. Mulw (f.rd_is i) (f.rs1_is i) (f.rs2_is i))
+full_is word (Divw rd rs1 rs2) f = by_r f ∙ (λ i. Divw (f.rd_is i) (f.rs1_is i) (f.rs2_is i))
+full_is word (Divuw rd rs1 rs2) f = by_r f ∙ (λ i. Divuw (f.rd_is i) (f.rs1_is i) (f.rs2_is i))
+full_is word (Remw rd rs1 rs2) f = by_r f ∙ (λ i. Remw (f.rd_is i) (f.rs1_is i) (f.rs2_is i))
+full_is word (Remuw rd rs1 rs2) f = by_r f ∙ (λ i. Remuw (f.rd_is i) (f.rs1_is i) (f.rs2_is i))
 
 -- Halfwords.
 

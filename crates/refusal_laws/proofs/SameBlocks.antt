@@ -6,7 +6,8 @@ use Rattle.std.specs.Option.{option_map_or}
 use Rattle.rv_code.specs.declared.placed.Block.{Block}
 use Rattle.rv_code.specs.declared.placed.Func.{Func}
 use Rattle.rv_code.specs.declared.placed.Placed.{Placed}
-use Rattle.rv_code.specs.layout.Blocks.{AreBlocks, Begins, EndsBlock, IsBefore, IsBlock, IsBlockOf, after_end, at_start, inst_address, named}
+use Rattle.rv_code.specs.layout.Blocks.{AreBlocks, Begins, EndsBlock, IsBefore, IsBlock, IsBlockOf, after_end, at_start}
+use Rattle.rv_code.specs.layout.Blocks.{inst_address, named}
 use Rattle.rv_code.specs.layout.Flow.{action_at, falls, target_of}
 use Rattle.rv_code.specs.layout.ProgramCode.{CellNames, IsHeld, IsTarget, ProgramCode, RoleNames, by_cell, by_entry, by_role}
 use Rattle.rv_code.specs.layout.WorstSizes.{worst_length, worst_size_of_block}

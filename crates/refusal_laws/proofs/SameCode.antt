@@ -1,5 +1,6 @@
 -- Two readings of a file have the same program: the same code, wherever its parts are kept in memory, and the same blocks.
-use Rattle.std.proofs.Common.{◌≡◌, ◌∙◌, ◌≤◌, ◌<◌, ◌⊎◌, ◌+◌, sym, ap, subst, ℕ, inl, inr, List, [], ◌∷◌, Some, Bool, true, false, map, arith, refl}
+use Rattle.std.proofs.Common.{◌≡◌, ◌∙◌, ◌≤◌, ◌<◌, ◌⊎◌, ◌+◌, sym, ap, subst, ℕ, inl, inr, List, [], ◌∷◌, Some}
+use Rattle.std.proofs.Common.{Bool, true, false, map, arith, refl}
 use Rattle.std.specs.Prelude.{◌↔◌, Contains, length, slice_index_or}
 use Rattle.std.proofs.lemmas.Bool.{cases_order}
 use Rattle.std.proofs.lemmas.List.{get_or_default}

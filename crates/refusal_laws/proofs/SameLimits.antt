@@ -1,5 +1,6 @@
 -- Room, limits and faults of tables are the same, whichever reading of a file they are taken of.
-use Rattle.std.proofs.Common.{◌≡◌, ◌≢◌, ◌∙◌, ◌<◌, refl, sym, ap, subst, ℕ, ◌+◌, ◌*◌, ◌-◌, List, [], ◌∷◌, Option, Some, None, Bool, true, false}
+use Rattle.std.proofs.Common.{◌≡◌, ◌≢◌, ◌∙◌, ◌<◌, refl, sym, ap, subst, ℕ, ◌+◌, ◌*◌, ◌-◌, List, [], ◌∷◌}
+use Rattle.std.proofs.Common.{Option, Some, None, Bool, true, false}
 use Rattle.std.proofs.Common.{drop, filter, length, map, option_map, take, if◌then◌else◌}
 use Rattle.std.specs.Prelude.{◌==◌, ◌&&◌, Any, IsSomeAnd, codes, find, fold, is_some, nat_le, nat_lt, option_and_then, slice_get, sum_by}
 use Rattle.std.specs.List.{list_any}
@@ -69,7 +70,8 @@ summed v F xs = sym (folded v F xs 0)
     folded v F (y ∷ ys) n = folded v F ys (n + F (v y))
 
 module _ (e e' : Elf) (alike : Alike e e') where
-  called : (name : List ℕ) → option_map bare (section_called e.sections.items name) ≡ option_map bare (section_called e'.sections.items name)
+  called : (name : List ℕ) →
+      option_map bare (section_called e.sections.items name) ≡ option_map bare (section_called e'.sections.items name)
   called name = same_found bare e.sections.items e'.sections.items alike.sections (is_called name)
 
   -- A frame table that is registered.
@@ -168,7 +170,10 @@ module _ (e e' : Elf) (alike : Alike e e') where
 
   module _ (fs gs : List Func) (same : map view fs ≡ map view gs) where
     around : (a : ℕ) → start_around fs a ≡ start_around gs a
-    around a = starts_found fs ∙ ap (option_map (λ (v : View). v.0)) (same_found view fs gs same (λ v. nat_le v.0 a && nat_lt a v.1)) ∙ sym (starts_found gs)
+    around a =
+        starts_found fs
+        ∙ ap (option_map (λ (v : View). v.0)) (same_found view fs gs same (λ v. nat_le v.0 a && nat_lt a v.1))
+        ∙ sym (starts_found gs)
       where
         starts_found : (hs : List Func) → start_around hs a
             ≡ option_map (λ (v : View). v.0) (option_map view (find (λ f. nat_le f.start a && nat_lt a f.end) hs))

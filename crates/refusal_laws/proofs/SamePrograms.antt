@@ -57,7 +57,8 @@ same_program file x y one other =
 
 -- What holds of one holds of the other.
 
-module _ (P Q : FaultKind → ℕ → Type 0) (to : (k : FaultKind) (p : ℕ) → P k p → Q k p) (from : (k : FaultKind) (p : ℕ) → Q k p → P k p) where
+module _ (P Q : FaultKind → ℕ → Type 0) (to : (k : FaultKind) (p : ℕ) → P k p → Q k p)
+    (from : (k : FaultKind) (p : ℕ) → Q k p → P k p) where
   pub answered_by : (f : Fault) → IsAnswered P f → IsAnswered Q f
   answered_by f is = record {
     present = to f.kind f.place is.present;

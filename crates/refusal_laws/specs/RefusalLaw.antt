@@ -47,4 +47,5 @@ pub record RefusalLaw : Type 0 where
   pub rewrites : (file profile : List ℕ) (f g : Fault) → IsRefused file profile f → IsRefused file profile g → f ≡ g
   -- and of a file that was rewritten, with its layout
   pub rewritten : (file profile written : List ℕ) (spans : List Span) (counts : RewriteCounts) →
-      IsRewritten file profile written spans counts → (f : Fault) (r : IsRefused file profile f) → IsOfLayout spans r → ⊥
+      IsRewritten file profile written spans counts → (f : Fault) (r : IsRefused file profile f) →
+      IsOfLayout spans r → ⊥
