@@ -12,4 +12,4 @@ pub use first_range::FirstRange;
 pub use last_run::{ends_at, lengthen};
 pub use range::Range;
 pub use run::Run;
-pub use weights::{ANSWER_SIZE, MOST_BESIDE, RUN_WEIGHT, WEIGHT_LIMIT};
+pub use weights::{ANSWER_SIZE, RUN_WEIGHT, WEIGHT_LIMIT};

@@ -8,7 +8,3 @@ pub const WEIGHT_LIMIT: u64 = 4_000_000_000;
 
 /// A bound on the bytes of memory that an answer takes with its run, without the memory that the answer owns.
 pub const ANSWER_SIZE: usize = 128;
-
-/// The most bytes of memory for answers, in addition to a number of bytes for each byte of the file, which each table
-/// sets itself.
-pub const MOST_BESIDE: usize = 1 << 28;

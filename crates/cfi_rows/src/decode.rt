@@ -13,12 +13,9 @@ use crate::opcodes::location::location;
 use crate::opcodes::primary::primary;
 use crate::opcodes::register::register;
 use crate::operand::byte;
+use file_bounds::FRAME_INSTRUCTIONS;
 use rb_bytes::cursor::Cursor;
 use std::alloc::Global;
-
-// The most instructions of an entry. No function's entry needs as many, and each takes some 200 bytes while the entry
-// is run; so an entry with more is answered with want of memory.
-const MOST_INSTRUCTIONS: usize = 1 << 23;
 
 // The instruction at the front, by the range that its opcode is in. Opcodes above DW_CFA_hi_user have an operand in
 // their low six bits.
@@ -55,7 +52,7 @@ pub(crate) fn instructions(
         if cursor.left() == 0 {
             return Ok(list);
         }
-        if count >= MOST_INSTRUCTIONS {
+        if count >= FRAME_INSTRUCTIONS {
             return Err(Failed::Memory);
         }
         list.push(instruction(alloc, cursor, factors)?)?;

@@ -8,14 +8,11 @@ ghost use Rattle.cli_base.specs.ProgramFiles.{IsFileProgram};
 ghost use Rattle.cli_check.specs.RepairedFiles.{CannotRepair, IsRepairOf};
 
 use cli_base::{Inputs, file_program};
+use file_bounds::EDGES;
 use flow_text::{repaired_profile, report};
 use program::Program;
 use rb_bytes::fault::{NoMemory, Refusal};
 use std::alloc::Global;
-
-// The number of edges that a program may have in addition to half the number of bytes of its file. Programs of
-// compilers have less than a tenth of this.
-const EDGES_BESIDE: usize = 1 << 21;
 
 /// The text of a repaired profile, and the lines that show that no other repaired profile changes less.
 #[derive(Drop)]
@@ -56,7 +53,7 @@ fn check_edges(edges: &[(usize, usize)], file: &[u8]) -> Result<(), NoMemory>
     ensures few { OnOk result (length edges.now ≤ length file.now / 2 + 2 ^ 21) }
     ensures many { IfErr result (λ _. length file.now / 2 + 2 ^ 21 < length edges.now) }
 {
-    if edges.len() > file.len() / 2 + EDGES_BESIDE {
+    if edges.len() > file.len() / 2 + EDGES {
         Err(NoMemory)
     } else {
         Ok(())

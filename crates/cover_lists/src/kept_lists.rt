@@ -11,6 +11,7 @@ use crate::cover_index::sorted;
 use crate::cover_tree::{Cover, CoverTree};
 use crate::kept_list::KeptList;
 use crate::list_place::Place;
+use file_bounds::EXPRESSION_BYTES;
 use rb_bytes::fault::NoMemory;
 use std::alloc::Global;
 
@@ -126,15 +127,12 @@ fn defaults_of(alloc: Global, places: &[Place<'_>]) -> Result<Vec<Vec<u8>>, NoMe
     Ok(copies)
 }
 
-// The number of bytes of an expression that count as one more item.
-const BYTES_OF_ITEM: usize = 64;
-
 // The size of the lists before, with that of a list's items.
 fn size_with(places: &[Place<'_>], before: usize) -> usize {
     let mut size = before;
     for place in places {
         size = size
-            .saturating_add(place.expression.len() / BYTES_OF_ITEM)
+            .saturating_add(place.expression.len() / EXPRESSION_BYTES)
             .saturating_add(1);
     }
     size

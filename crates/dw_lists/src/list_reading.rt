@@ -12,6 +12,7 @@ use crate::list_bound::Bound;
 use crate::list_item::{ListItem, item};
 use crate::list_kind::ListKind;
 use cover_lists::list_place::{Bounds, Place};
+use file_bounds::{BAD_LIST_BYTES, ENTRIES_A_PLACE, LIST_ENTRY_BYTES, LIST_PLACES};
 use rb_bytes::cursor::Cursor;
 use rb_bytes::fault::NoMemory;
 use std::alloc::Global;
@@ -127,20 +128,6 @@ fn take_step<'a>(
     }
 }
 
-// Limits for lists that are long and have few places. `ListSection::most` only counts what is kept of a list, but each
-// unit that refers to the list reads it again.
-//
-// The number of entries that a list may have for each of its places, with `MOST_BESIDE` places more.
-const MOST_TIMES: usize = 4;
-
-const MOST_BESIDE: usize = 8;
-
-// The limit of bytes of an entry without its expression.
-const MOST_NUMBERS: usize = 64;
-
-// The limit of bytes read of a list that turns out to be bad.
-const MOST_BAD: usize = 1 << 9;
-
 // The most bytes below 0x80 in an entry without its expression: its kind, two addresses of eight bytes, and the last
 // byte of each of three LEB128 numbers.
 const MOST_ENDS: usize = 20;
@@ -159,16 +146,16 @@ fn own_size(places: &[Place<'_>], before: usize, size: usize) -> usize {
 
 // Whether a list has too many entries without a place, or an entry has too many bytes without its expression.
 fn is_dear(entries: usize, places: &[Place<'_>], own: usize) -> bool {
-    entries / MOST_TIMES > places.len().saturating_add(MOST_BESIDE) || own > MOST_NUMBERS
+    entries / ENTRIES_A_PLACE > places.len().saturating_add(LIST_PLACES) || own > LIST_ENTRY_BYTES
 }
 
-// Whether a number of the entry at the front may have more than `MOST_BAD` bytes: few of these are below 0x80, as only
-// the last byte of a LEB128 number is.
+// Whether a number of the entry at the front may have more than `BAD_LIST_BYTES` bytes: few of these are below 0x80, as
+// only the last byte of a LEB128 number is.
 fn may_be_long(bytes: &[u8]) -> bool {
-    if bytes.len() <= MOST_BAD {
+    if bytes.len() <= BAD_LIST_BYTES {
         return false;
     }
-    let (front, _) = bytes.split_at(MOST_BAD);
+    let (front, _) = bytes.split_at(BAD_LIST_BYTES);
     let mut ends: usize = 0;
     for byte in front {
         if *byte < 0x80 {
@@ -182,7 +169,7 @@ fn may_be_long(bytes: &[u8]) -> bool {
 fn was_dear(bytes: &[u8], left: usize) -> bool {
     let read = bytes.len().saturating_sub(left).min(bytes.len());
     let (_, rest) = bytes.split_at(read);
-    read > MOST_BAD || may_be_long(rest)
+    read > BAD_LIST_BYTES || may_be_long(rest)
 }
 
 /// The contents of the list at the front of some bytes, by a unit's base address and addresses; none if the list is

@@ -20,6 +20,7 @@ use byteorder::{ByteOrder, LittleEndian};
 use cover_lists::list_place::Place;
 use dw_unit::Attr;
 use dw_unit::lowest::lower;
+use file_bounds::{BYTES_AN_ITEM, KEPT_ITEMS};
 use rb_bytes::fault::NoMemory;
 use std::alloc::Global;
 use table_core::DebugUnit;
@@ -34,18 +35,11 @@ pub struct ListSection<'a, 't> {
     pub most: usize,
 }
 
-// The bytes of a file for each range or entry that is kept. Files of compilers have 320 bytes for each, and 78 if they
-// have no relocations.
-const BYTES_OF_EACH: usize = 32;
-
-// The number kept of any file, so that no small file meets the limit.
-const KEPT_BESIDE: usize = 1 << 17;
-
 /// The limit of ranges that are kept of a file with `file_size` bytes. The same limit holds for each of entries with
 /// ranges, entries of location lists, and attributes with a location. An entry of a few bytes takes up to a KiB of
 /// memory until it is written, and lists may overlap, so few bytes could refer to any number of entries.
 pub fn most_kept(file_size: usize) -> usize {
-    (file_size / BYTES_OF_EACH).saturating_add(KEPT_BESIDE)
+    (file_size / BYTES_AN_ITEM).saturating_add(KEPT_ITEMS)
 }
 
 // Whether a table begins at or below an offset.

@@ -9,15 +9,12 @@ ghost use Rattle.dw_unit.specs.Stops.{IfTrouble};
 ghost use Rattle.dw_unit.specs.Told.{told_declaration};
 
 use crate::trouble::{Stop, Trouble};
+use file_bounds::ATTRIBUTES;
 use rb_bytes::cursor::Cursor;
 use std::alloc::Global;
 use table_core::form::DW_FORM_implicit_const;
 use table_core::shape::Shape;
 use table_core::value::value;
-
-// The limit of a declaration's attributes. Compilers list fewer than forty. An attribute may have no bytes in an entry
-// (DW_FORM_flag_present), so without a limit an entry of one byte could take as long to read as its declaration.
-const MOST_SPECS: usize = 1 << 8;
 
 /// A pair of a declaration: an attribute's number, such as `DW_AT_low_pc`, and the form of its value.
 #[derive(Clone, Copy)]
@@ -71,7 +68,7 @@ fn next_spec<'a>(cursor: &mut Cursor<'a>) -> Result<Option<Spec>, Trouble>
     }))
 }
 
-// The pairs of a declaration. More than `MOST_SPECS` give `Stop::Memory`.
+// The pairs of a declaration. More than `ATTRIBUTES` give `Stop::Memory`.
 fn read_specs<'a>(alloc: Global, cursor: &mut Cursor<'a>) -> Result<Vec<Spec>, Stop>
     ensures read { IfOk result (λ specs. specs_at cursor.old.left ≡ Ok (specs.items, cursor.new.left)) }
     ensures trouble { IfTrouble result (λ e. specs_at cursor.old.left ≡ Err e) }
@@ -82,7 +79,7 @@ fn read_specs<'a>(alloc: Global, cursor: &mut Cursor<'a>) -> Result<Vec<Spec>, S
         match next_spec(cursor)? {
             Some(spec) => {
                 specs.push(spec)?;
-                if specs.len() > MOST_SPECS {
+                if specs.len() > ATTRIBUTES {
                     return Err(Stop::Memory);
                 }
             }

@@ -14,12 +14,10 @@ use crate::lowest::lower_of;
 use crate::start::Start;
 use crate::table::{Table, read_table};
 use crate::table_place::TableAt;
+use file_bounds::ABBREV_BYTES;
 use rb_bytes::fault::NoMemory;
 use std::alloc::Global;
 use std::collections::BTreeMap;
-
-// The limit of bytes that are read again, if tables overlap and none begins at a declaration of another.
-const READ_AGAIN: u64 = 1 << 25;
 
 /// The tables of a section that begin at the offsets asked for.
 #[derive(Drop)]
@@ -121,7 +119,7 @@ pub fn read_tables<'s>(
 {
     let mut read = Vec::new(alloc);
     let mut starts = BTreeMap::new(alloc);
-    let mut left = section.len() as u64 + READ_AGAIN;
+    let mut left = section.len() as u64 + ABBREV_BYTES;
     for offset in offsets {
         let size = read_at(alloc, section, *offset, offsets, &mut read, &mut starts)?;
         if left < size {

@@ -10,14 +10,9 @@ use crate::entry::{Attr, Entry};
 use crate::table_place::TableAt;
 use crate::trouble::{Stop, Trouble};
 use crate::walk::next_entry;
+use file_bounds::{ENTRY_BYTES, ENTRY_RATIO};
 use rb_bytes::cursor::Cursor;
 use std::alloc::Global;
-
-// The limit of memory for a unit's entries: `MEMORY_A_BYTE` for each of the unit's bytes, and `MEMORY_BESIDE` more. An
-// entry may have one byte, and an attribute none (DW_FORM_flag_present), so a few bytes could list any number of these.
-const MEMORY_A_BYTE: usize = 56;
-
-const MEMORY_BESIDE: usize = 1 << 14;
 
 // The memory of an entry, and of each of its attributes, in bytes, or a few more.
 const ENTRY_SIZE: usize = 56;
@@ -52,8 +47,8 @@ pub fn read_entries<'a>(
     let mut depth = 0;
     let mut room = cursor
         .left()
-        .saturating_mul(MEMORY_A_BYTE)
-        .saturating_add(MEMORY_BESIDE);
+        .saturating_mul(ENTRY_RATIO)
+        .saturating_add(ENTRY_BYTES);
     let mut attrs = Vec::new(alloc);
     'entries: loop {
         match next_entry(cursor, unit, end, &mut depth, table, &mut attrs)? {

@@ -27,13 +27,8 @@ use elf_plan::old_name::{is_renamed, old_prefix};
 use elf_plan::section_bytes::{SHT_NULL, bytes_of, flags_left, without_code};
 use elf_plan::sections::Contents;
 use elf_plan::unwritable::Unwritable;
+use file_bounds::{OUTPUT_BESIDE, OUTPUT_BYTES, OUTPUT_RATIO};
 use std::alloc::Global;
-
-// The contents of an output end at most after `MOST_TIMES` times the bytes of the input and `MOST_ZEROS`. Huge
-// alignments of sections may ask for more.
-const MOST_TIMES: u64 = 32;
-
-const MOST_ZEROS: u64 = 4 << 20;
 
 // The alignments of the sections in the new area. Those of the tables are the ones by which `elf_plan` places them.
 const CODE_ALIGN: u64 = 16;
@@ -337,7 +332,7 @@ fn place_bytes(
 }
 
 /// Finds where contents would end that are written from the offset `start` on, in the order `order`, before any is:
-/// past `OUTPUT_LIMIT`, or past the bytes that the input allows, is `TooLarge`. Zeros before huge alignments can make
+/// past `OUTPUT_BYTES`, or past the bytes that the input allows, is `TooLarge`. Zeros before huge alignments can make
 /// that of a small file.
 pub fn check_end<'a>(
     elf: &Elf<'a>,
@@ -353,8 +348,8 @@ pub fn check_end<'a>(
             end = end_behind(end, section.align, bytes.len())?;
         }
     }
-    let most = (elf.file.len() as u64).saturating_mul(MOST_TIMES);
-    if end > most.saturating_add(MOST_ZEROS) {
+    let most = (elf.file.len() as u64).saturating_mul(OUTPUT_RATIO);
+    if end > most.saturating_add(OUTPUT_BESIDE) {
         return Err(Unwritable::TooLarge);
     }
     Ok(())

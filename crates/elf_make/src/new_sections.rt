@@ -32,11 +32,8 @@ use elf_plan::sections::Contents;
 use elf_plan::source::SectionSource;
 use elf_plan::unwritable::Unwritable;
 use elf_plan::weights::weight_by;
+use file_bounds::COPY_RATIO;
 use std::alloc::Global;
-
-// How many times the bytes of the input the tables of names and the copied contents may take together. Where no section
-// or name shares bytes with others they take about as many as the input.
-const MOST_COPIES: u64 = 16;
 
 /// The sections of a written file.
 #[derive(Drop)]
@@ -210,7 +207,7 @@ fn check_sizes(source: &SectionSource, contents: &[Contents]) -> Result<(), Unwr
             size = size.saturating_add(section.size);
         }
     }
-    if size > (source.elf.file.len() as u64).saturating_mul(MOST_COPIES) {
+    if size > (source.elf.file.len() as u64).saturating_mul(COPY_RATIO) {
         return Err(Unwritable::TooLarge);
     }
     limited(size)?;

@@ -4,16 +4,14 @@ ghost use Rattle.std.specs.Prelude.{◌≡◌, ◌+◌, IfOk, length};
 use elf_parts::patch::fill_to;
 use elf_plan::round::{checked_rounded_up, sum};
 use elf_plan::unwritable::Unwritable;
+use file_bounds::OUTPUT_BYTES;
 use std::alloc::Global;
-
-/// The most bytes of a written file: a GiB.
-pub const OUTPUT_LIMIT: u64 = 1 << 30;
 
 /// `end`, or `TooLarge` if no file may have as many bytes.
 pub fn limited(end: u64) -> Result<u64, Unwritable>
     ensures { IfOk result (λ e. e ≡ end) }
 {
-    if end > OUTPUT_LIMIT {
+    if end > OUTPUT_BYTES {
         Err(Unwritable::TooLarge)
     } else {
         Ok(end)

@@ -15,6 +15,7 @@ use crate::text::{Texts, text_named};
 use crate::walk::{file_links, place_set};
 use dw_unit::UnitReader;
 use elf_image::Elf;
+use file_bounds::PRINTED_BYTES;
 use line_rewrite::Lines;
 use rb_bytes::fault::{NoMemory, Refusal};
 use std::alloc::Global;
@@ -72,10 +73,6 @@ fn frame_of(
     })
 }
 
-// The limit of bytes of names and paths of all frames. Each frame has its own copies, and names may be suffixes of one
-// long text, so a small file can ask for very many bytes.
-const MOST_BYTES: usize = 1 << 27;
-
 // The bytes of a section of names that a search for the end of a name may pass in vain: all, if the section doesn't end
 // with a zero byte.
 fn open_size(section: &[u8]) -> usize {
@@ -112,7 +109,7 @@ fn frames_from(
             .saturating_add(frame.name.len())
             .saturating_add(frame.path.len())
             .saturating_add(searched);
-        if bytes > MOST_BYTES {
+        if bytes > PRINTED_BYTES {
             return Err(NoMemory);
         }
         frames.push(frame)?;

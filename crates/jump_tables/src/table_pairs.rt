@@ -6,14 +6,10 @@ ghost use Rattle.rb_bytes.specs.Lists.{Gains};
 ghost use Rattle.jump_tables.specs.TablePairs.{IsPairOf};
 
 use crate::labels::{labels, named_addresses};
+use file_bounds::JUMP_PAIRS;
 use rb_bytes::fault::NoMemory;
 use rv_code::{CodeCell, Func, Inst, Placed, RETURN_ADDRESS, Role, ZERO};
 use std::alloc::Global;
-
-// The most pairs before the pairs of one more jump are added. Each jump of a function has a pair with each of its
-// labels, so a small file could have very many. A function with 4,000 jumps through tables and 4,000 labels is just
-// within.
-const MOST_PAIRS: usize = 1 << 24;
 
 /// The pairs of an indirect jump through a table and an address of its function that a cell refers to, by jump and by
 /// address. The result is `NoMemory` also if there are more than 2^24 pairs before the pairs of a jump, which no usual
@@ -61,7 +57,7 @@ fn push_pairs(
 fn push_row(pairs: &mut Vec<(u64, u64)>, jump: u64, labels: &[u64]) -> Result<(), NoMemory>
     ensures { OnOk result (Gains pairs.old.items pairs.new.items (λ e. (e.0 ≡ jump) × Contains labels.now e.1)) }
 {
-    if pairs.len() > MOST_PAIRS {
+    if pairs.len() > JUMP_PAIRS {
         return Err(NoMemory);
     }
     for label in labels {

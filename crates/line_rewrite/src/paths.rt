@@ -11,13 +11,10 @@ use crate::answer::LineRow;
 use crate::entry::{Entry, Text};
 use crate::registers::Registers;
 use crate::unit::Unit;
+use file_bounds::PATH_BYTES;
 use std::alloc::{AllocError, Global};
 
 const SLASH: u8 = b'/';
-
-// The limit of bytes of the paths of the rows in force at one address: each row has its own copy of its path, and one
-// path may be as long as the file.
-const MOST_BYTES: usize = 1 << 27;
 
 fn is_absolute(name: &[u8]) -> bool
     ensures { result ≡ is_absolute name.now }
@@ -143,7 +140,7 @@ fn push_row(
         return Ok(());
     };
     *bytes = bytes.saturating_add(row.path.len());
-    if *bytes > MOST_BYTES {
+    if *bytes > PATH_BYTES {
         return Err(AllocError);
     }
     said.push(row)?;

@@ -10,11 +10,9 @@ use crate::line_program::LineProgram;
 use crate::machine::{after_op, after_row, effect_of};
 use crate::reading::read_op;
 use crate::registers::Registers;
+use file_bounds::LINE_ROWS;
 use rb_bytes::cursor::Cursor;
 use std::alloc::{AllocError, Global};
-
-// The limit of rows in force at one address: each byte of a program may append one there.
-const MOST_ROWS: usize = 1 << 22;
 
 // Adds a row that was reached to the rows in force. Rows of another address are in force no more. Gives `AllocError`
 // also if there are too many rows.
@@ -26,7 +24,7 @@ fn join(found: &mut Vec<Registers>, row: Registers) -> Result<(), AllocError>
             found.clear();
         }
     }
-    if found.len() >= MOST_ROWS {
+    if found.len() >= LINE_ROWS {
         return Err(AllocError);
     }
     found.push(row)?;

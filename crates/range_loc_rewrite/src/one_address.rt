@@ -18,6 +18,7 @@ use cover_lists::cover_tree::{Cover, holds};
 use cover_lists::groups::RangedEntry;
 use cover_lists::kept_list::KeptList;
 use elf_image::Elf;
+use file_bounds::PRINTED_BYTES;
 use list_units::located_attr::LocatedAttr;
 use rb_bytes::fault::{NoMemory, Refusal};
 use std::alloc::Global;
@@ -85,10 +86,6 @@ fn covering(
     Ok(places)
 }
 
-// The limit of memory for the locations at an address, in bytes. Each entry gets its own copy of a list's expressions,
-// and any number of entries may refer to one list.
-const MOST_SIZE: usize = 1 << 27;
-
 // The memory of an expression without its bytes, in bytes, or a few more.
 const EXPRESSION_SIZE: usize = 64;
 
@@ -121,7 +118,7 @@ fn put_said(
     }
     let expressions = expressions_at(alloc, lists, &located.source, a)?;
     *size = size.saturating_add(size_of(&expressions));
-    if *size > MOST_SIZE {
+    if *size > PRINTED_BYTES {
         return Err(NoMemory);
     }
     put_place(places, located.place, located.attr, expressions)?;

@@ -13,13 +13,9 @@ use crate::merged_runs::merged_runs;
 use elf_image::number::{u32_at, u64_at};
 use elf_image::relocation::RELA_SIZE;
 use elf_image::{Elf, Section};
+use file_bounds::BYTES_A_RELOCATION;
 use rb_bytes::fault::NoMemory;
 use std::alloc::Global;
-
-// At most one relocation is kept for this number of bytes of the file. A table has 24 bytes for each relocation, which
-// is kept at most twice. Tables that overlap without sharing entries, which no linker makes, could have many more:
-// these are refused as out of memory.
-const BYTES_A_RECORD: usize = 6;
 
 /// A relocation with a section that it applies to.
 #[derive(Clone, Copy)]
@@ -99,7 +95,7 @@ fn read_records<'a>(
     let mut records = Vec::new(alloc);
     for run in runs {
         push_run(&mut records, file, run)?;
-        if records.len() > file.len() / BYTES_A_RECORD {
+        if records.len() > file.len() / BYTES_A_RELOCATION {
             return Err(NoMemory);
         }
     }

@@ -15,24 +15,18 @@ use addr_map::AddrMap;
 use answer_runs::{Run, WEIGHT_LIMIT};
 use dw_unit::abbrev_weight;
 use elf_image::Elf;
+use file_bounds::{UNIT_WEIGHT, UNIT_WEIGHT_RATIO};
 use line_rewrite::LineAt;
 use rb_bytes::fault::NoMemory;
 use std::alloc::Global;
 use table_core::AddrTable;
 
-// The limit of the weight of lists and of the declarations of units, for each byte of the file, with what is added to
-// it. A unit that uses one index of a list also gets an offset for each index below it; and units can begin their
-// declarations at any one of a long table, and each gets all that follow.
-const MOST_TIMES: u64 = 64;
-
-const MOST_BESIDE: u64 = 1 << 28;
-
 // Whether lists and declarations are so heavy for the file that memory could run out while they are written.
 fn is_much(weight: u64, file_size: u64) -> bool {
     weight
         > file_size
-            .saturating_mul(MOST_TIMES)
-            .saturating_add(MOST_BESIDE)
+            .saturating_mul(UNIT_WEIGHT_RATIO)
+            .saturating_add(UNIT_WEIGHT)
 }
 
 /// What tables were weighed by, and are written from.
