@@ -11,9 +11,9 @@ ghost use Rattle.rb_io.specs.Views.{FilesGoOn};
 
 use crate::calls::Calls;
 use crate::files::{Files, ReadAll, Wrote};
-use crate::no_memory::NoMemory;
 use crate::slot::Slot;
 use crate::slots::{Slots, make_room, overwrite};
+use rb_bytes::fault::NoMemory;
 use std::alloc::Global;
 
 /// In-memory files. Reads and writes are numbered together, from 1, and chosen numbers fail.

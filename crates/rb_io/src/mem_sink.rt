@@ -2,8 +2,8 @@
 ghost use Rattle.std.specs.Prelude.{◌≡◌, ◌≤◌, [], IfOk, length, vec_capacity};
 
 use crate::calls::Calls;
-use crate::no_memory::NoMemory;
 use crate::sink::{Put, Sink};
+use rb_bytes::fault::NoMemory;
 use std::alloc::Global;
 
 /// Takes bytes into memory that was allocated before. Writes with chosen numbers fail.
