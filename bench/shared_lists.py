@@ -5,12 +5,14 @@
 
 Clang that optimizes when linking (`-flto`) makes one table of lists for all units, which all name the same offsets
 (DWARF 5, sections 7.28 and 7.29). Programs of UNITS units (120 and 600 if none are given) of three functions each are
-built by Clang 19 at -O2 -g. COMMAND (`./sudrepka` if it isn't given) records a run of each and rewrites it by that
-profile. A row has the bytes of each table of lists and of addresses before and after, with the ratio, and the seconds
-of the processor that the rewrite took. The status is 0 if no table has more than RATIO times its bytes (1.5 if it isn't
-given). It wants `clang-19` and `lld-19`, and picolibc.
+built by Clang 19 at -O2 -g. COMMAND (`./sudrepka` if it isn't given) rewrites each by an empty profile, which leaves
+functions whole, and by the profile of a run, which divides them. A row has the bytes of each table of lists and of
+addresses before and after, with the ratio, and the seconds of the processor that the rewrite took. The status is 0 if
+no table of locations has more than RATIO times its bytes (1.5 if it isn't given) by the empty profile. It wants
+`clang-19` and `lld-19`, and picolibc.
 """
 import argparse
+import math
 import os
 import re
 import subprocess
@@ -81,36 +83,44 @@ def shared_bases(path):
     return len(bases), len(set(bases))
 
 
-def compare(tool, path, most):
-    """Rewrites a program and prints a row for each table. Gives how many grew by more than allowed."""
-    profile, new, spans = (f"{path}.{end}" for end in ("profile", "moved", "map"))
-    record(tool, path, [], profile)
+def compare(tool, path, profile, label):
+    """Rewrites a program and prints a row for each table. Gives the ratio of the tables of locations."""
+    new, spans = (f"{path}.{end}" for end in ("moved", "map"))
     took = spent([*tool, "rewrite", path, profile, new, spans], stdout=subprocess.DEVNULL)
     if took.status != 0:
         print(f"{os.path.basename(path)}: rewrite ends with {took.status}", flush=True)
-        return 1
+        return math.inf
     count, differ = shared_bases(path)
-    grown = 0
+    ratios = {}
     for name in TABLES:
         before, after = (table_at(file, name)[2] for file in (path, new))
         if before:
-            grown += after > most * before
-            print(f"| {count} units, {differ} base | `{name}` | {before:,} | {after:,} | {after / before:.2f} "
+            ratios[name] = after / before
+            print(f"| {count} units, {differ} base | {label} | `{name}` | {before:,} | {after:,} | {ratios[name]:.2f} "
                   f"| {took.seconds:.2f} |", flush=True)
-    return grown
+    return ratios[".debug_loclists"]
+
+
+def compare_both(tool, path):
+    """Rewrites a program by both profiles. Gives the ratio of the tables of locations by the empty one."""
+    profile = f"{path}.profile"
+    whole = compare(tool, path, write(profile, ""), "none")
+    record(tool, path, [], profile)
+    compare(tool, path, profile, "its run")
+    return whole
 
 
 def main():
     words = argparse.ArgumentParser(description="how tables of lists grow whose offsets many units share")
     words.add_argument("--tool", default=os.path.join(ROOT, "sudrepka"), help="the command that takes `rewrite ..`")
     words.add_argument("--keep", help="a folder for all files")
-    words.add_argument("--most", type=float, default=1.5, help="how many times as large a table may be")
+    words.add_argument("--most", type=float, default=1.5, help="how many times as large a table of locations may be")
     words.add_argument("units", type=int, nargs="*", default=[120, 600])
     given = words.parse_args()
     want("clang-19", "ld.lld-19")
     front, _ = compilers()["clang"]
-    tool, grown = built(given.tool), 0
-    print("| file | table | bytes before | after | | seconds |\n|---|---|---|---|---|---|")
+    tool, ratios = built(given.tool), []
+    print("| file | profile | table | bytes before | after | | seconds |\n|---|---|---|---|---|---|---|")
     with tempfile.TemporaryDirectory() as room:
         folder = given.keep or room
         os.makedirs(folder, exist_ok=True)
@@ -118,8 +128,9 @@ def main():
             path = os.path.join(os.path.abspath(folder), f"units{units}")
             if not os.path.exists(path):
                 build(path, units, front)
-            grown += compare(tool, path, given.most)
-    print(f"{grown} tables have more than {given.most} times their bytes")
+            ratios.append(compare_both(tool, path))
+    grown = sum(ratio > given.most for ratio in ratios)
+    print(f"{grown} tables of locations have more than {given.most} times their bytes by an empty profile")
     return 1 if grown else 0
 
 

@@ -6,7 +6,7 @@ ghost use Rattle.elf_image.specs.memory.Image.{byte_of, has_memory, loads_addres
 
 use crate::segment::Segment;
 use rb_bytes::fault::NoMemory;
-use std::alloc::{AllocError, Global};
+use std::alloc::Global;
 
 // The segments with memory, sorted by address.
 pub(crate) fn segments_by_address(
@@ -24,17 +24,18 @@ pub(crate) fn segments_by_address(
     Ok(loads)
 }
 
-fn segments_with_memory(alloc: Global, segments: &[Segment]) -> Result<Vec<Segment>, AllocError>
+fn segments_with_memory(alloc: Global, segments: &[Segment]) -> Result<Vec<Segment>, NoMemory>
     ensures { IfOk result (λ v. v.items ≡ filter has_memory segments.now) }
 {
-    segments
+    let loads = segments
         .iter()
         .copied()
         .filter(|p| p.has_memory())
-        .collect(alloc)
+        .collect(alloc)?;
+    Ok(loads)
 }
 
-fn sort_by_address(segments: &mut Vec<Segment>) -> Result<(), AllocError>
+fn sort_by_address(segments: &mut Vec<Segment>) -> Result<(), NoMemory>
     ensures permutation { IsPermutation segments.old.items segments.new.items }
     ensures rising { OnOk result (IsNonDecreasingBy (λ p. p.vaddr) segments.new.items) }
 {

@@ -5,8 +5,9 @@ ghost use Rattle.func_place.specs.Bands.{blocks_of, order_of};
 ghost use Rattle.func_place.specs.internal.Groups.{list_at};
 ghost use Rattle.func_place.specs.Clusters.{AreWithinLimit};
 
+use rb_bytes::fault::NoMemory;
 use rv_code::worst_sizes::NEAR_LIMIT;
-use std::alloc::{AllocError, Global};
+use std::alloc::Global;
 
 /// The blocks of `units`, band by band. The units of a band have at most `NEAR_LIMIT` bytes in all, and the hot parts
 /// of all of them come before their cold parts. `sizes`, `hot` and `cold` have an entry for each unit.
@@ -16,7 +17,7 @@ pub fn order_units(
     units: &[usize],
     hot: &[Vec<usize>],
     cold: &[Vec<usize>],
-) -> Result<Vec<usize>, AllocError>
+) -> Result<Vec<usize>, NoMemory>
     requires sizes_in { AreWithinLimit sizes.now }
     requires units_in { All (λ u. u < length sizes.now) units.now }
     requires hot_in { length hot.now ≡ length sizes.now }
@@ -47,7 +48,7 @@ fn put_band(
     band: &[usize],
     hot: &[Vec<usize>],
     cold: &[Vec<usize>],
-) -> Result<(), AllocError>
+) -> Result<(), NoMemory>
     requires hot_in { All (λ u. u < length hot.now) band.now }
     requires cold_in { All (λ u. u < length cold.now) band.now }
     ensures { OnOk result (order.new.items ≡ order.old.items ++ blocks_of (list_at (map (λ v. v.items) hot.now))
@@ -58,11 +59,7 @@ fn put_band(
 }
 
 // Appends the `parts` of `units`.
-fn put_parts(
-    order: &mut Vec<usize>,
-    units: &[usize],
-    parts: &[Vec<usize>],
-) -> Result<(), AllocError>
+fn put_parts(order: &mut Vec<usize>, units: &[usize], parts: &[Vec<usize>]) -> Result<(), NoMemory>
     requires { All (λ u. u < length parts.now) units.now }
     ensures { OnOk result (order.new.items ≡ order.old.items ++ flat_map (list_at (map
         (λ v. v.items) parts.now)) units.now) }

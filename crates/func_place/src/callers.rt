@@ -5,7 +5,8 @@ ghost use Rattle.func_place.specs.Calls.{heaviest_caller};
 ghost use Rattle.func_place.specs.internal.HeaviestCallers.{AreByCallee, more_of};
 
 use crate::calls::UnitCall;
-use std::alloc::{AllocError, Global};
+use rb_bytes::fault::NoMemory;
+use std::alloc::Global;
 
 /// For each unit the other hot unit that calls it most often, the lowest of several. `None` if no other hot unit calls
 /// it.
@@ -13,7 +14,7 @@ pub fn heaviest_callers(
     alloc: Global,
     heats: &[u128],
     calls: &[UnitCall],
-) -> Result<Vec<Option<usize>>, AllocError>
+) -> Result<Vec<Option<usize>>, NoMemory>
     requires inside { All (λ c. (c.from < length heats.now) × (c.to < length heats.now)) calls.now }
     requires room { sum_by (λ c. c.count) calls.now < 2 ^ 128 }
     ensures len { IfOk result (λ v. length v.items ≡ length heats.now) }
@@ -25,7 +26,7 @@ pub fn heaviest_callers(
 }
 
 // The counts, sorted by callee and then by caller.
-fn by_callee(alloc: Global, calls: &[UnitCall]) -> Result<Vec<UnitCall>, AllocError>
+fn by_callee(alloc: Global, calls: &[UnitCall]) -> Result<Vec<UnitCall>, NoMemory>
     ensures each { IfOk result (λ v. IsPermutation calls.now v.items) }
     ensures ordered { IfOk result (λ v. AreByCallee v.items) }
 {
@@ -40,7 +41,7 @@ fn heaviest_of_sorted(
     alloc: Global,
     heats: &[u128],
     calls: &[UnitCall],
-) -> Result<Vec<Option<usize>>, AllocError>
+) -> Result<Vec<Option<usize>>, NoMemory>
     requires ordered { AreByCallee calls.now }
     requires inside { All (λ c. (c.from < length heats.now) × (c.to < length heats.now)) calls.now }
     requires room { sum_by (λ c. c.count) calls.now < 2 ^ 128 }

@@ -13,8 +13,9 @@ use crate::callers::heaviest_callers;
 use crate::calls::UnitCall;
 use crate::groups::Groups;
 use crate::ranks::Rank;
+use rb_bytes::fault::NoMemory;
 use rv_code::worst_sizes::NEAR_LIMIT;
-use std::alloc::{AllocError, Global};
+use std::alloc::Global;
 
 /// The clusters so far.
 #[derive(Drop)]
@@ -28,7 +29,7 @@ pub struct Clusters {
 
 impl Clusters {
     // Each unit in a cluster of its own.
-    fn new(alloc: Global, sizes: &[u128], heats: &[u128]) -> Result<Clusters, AllocError>
+    fn new(alloc: Global, sizes: &[u128], heats: &[u128]) -> Result<Clusters, NoMemory>
         requires sizes_in { AreWithinLimit sizes.now }
         requires sizes_some { (u : ℕ) → u < length sizes.now → 0 < slice_index heats.now u →
             0 < slice_index sizes.now u }
@@ -49,7 +50,7 @@ impl Clusters {
     }
 
     // Joins two clusters, the second after the first.
-    fn join(&mut self, alloc: Global, first: usize, second: usize) -> Result<(), AllocError>
+    fn join(&mut self, alloc: Global, first: usize, second: usize) -> Result<(), NoMemory>
         requires sound { IsValidState (state_of self.old) }
         requires apart { first ≢ second }
         requires first_in { first < count_of (state_of self.old) }
@@ -67,7 +68,7 @@ impl Clusters {
     }
 
     // Appends the cluster of `unit` to the cluster of its `caller`, if they are different and small enough together.
-    fn append(&mut self, alloc: Global, caller: usize, unit: usize) -> Result<(), AllocError>
+    fn append(&mut self, alloc: Global, caller: usize, unit: usize) -> Result<(), NoMemory>
         requires sound { IsValidState (state_of self.old) }
         requires caller_in { caller < count_of (state_of self.old) }
         requires unit_in { unit < count_of (state_of self.old) }
@@ -112,7 +113,7 @@ impl Clusters {
     }
 
     /// Appends to `line` all units of the clusters of `units`, cluster by cluster.
-    pub fn put_clusters(&self, units: &[usize], line: &mut Vec<usize>) -> Result<(), AllocError>
+    pub fn put_clusters(&self, units: &[usize], line: &mut Vec<usize>) -> Result<(), NoMemory>
         requires sound { IsValidState (state_of self.now) }
         requires units_in { All (λ u. u < count_of (state_of self.now)) units.now }
         ensures line { OnOk result ((sizes heats : List ℕ) (cluster : ℕ → List ℕ) →
@@ -136,7 +137,7 @@ fn fold_units(
     heats: &[u128],
     callers: &[Option<usize>],
     taken: &[usize],
-) -> Result<Clusters, AllocError>
+) -> Result<Clusters, NoMemory>
     requires sizes_in { AreWithinLimit sizes.now }
     requires sizes_some { (u : ℕ) → u < length sizes.now → 0 < slice_index heats.now u → 0 < slice_index sizes.now u }
     requires heats_len { length heats.now ≡ length sizes.now }
@@ -166,7 +167,7 @@ pub fn cluster_units(
     heats: &[u128],
     calls: &[UnitCall],
     taken: &[usize],
-) -> Result<Clusters, AllocError>
+) -> Result<Clusters, NoMemory>
     requires sizes_in { AreWithinLimit sizes.now }
     requires sizes_some { (u : ℕ) → u < length sizes.now → 0 < slice_index heats.now u → 0 < slice_index sizes.now u }
     requires heats_len { length heats.now ≡ length sizes.now }

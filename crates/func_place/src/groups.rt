@@ -3,7 +3,8 @@ ghost use Rattle.std.specs.Prelude.{◌≡◌, ◌≢◌, ℕ, ◌<◌, ◌≤�
 ghost use Rattle.func_place.specs.Ranks.{begins};
 ghost use Rattle.func_place.specs.internal.Groups.{grouping_of, list_at, group_of, IsGrouped, numbered, Joins};
 
-use std::alloc::{AllocError, Global};
+use rb_bytes::fault::NoMemory;
+use std::alloc::Global;
 use std::collections::VecDeque;
 use std::mem;
 
@@ -18,7 +19,7 @@ pub struct Groups {
 
 impl Groups {
     /// Each number below `n` in a group of its own, whose number is the same.
-    pub fn new(alloc: Global, n: usize) -> Result<Groups, AllocError>
+    pub fn new(alloc: Global, n: usize) -> Result<Groups, NoMemory>
         ensures len { IfOk result (λ g. length (grouping_of g).lists ≡ n) }
         ensures grouped { IfOk result (λ g. IsGrouped (grouping_of g)) }
         ensures number { IfOk result (λ g. (u : ℕ) → u < n → slice_index (grouping_of g).numbers u ≡ u) }
@@ -37,7 +38,7 @@ impl Groups {
 
     /// Joins two groups, the second after the first. The members of the shorter one get the number of the other, so a
     /// member gets a new number only if its group at least doubles. Returns the number that is kept.
-    pub fn join(&mut self, alloc: Global, first: usize, second: usize) -> Result<usize, AllocError>
+    pub fn join(&mut self, alloc: Global, first: usize, second: usize) -> Result<usize, NoMemory>
         requires grouped { IsGrouped (grouping_of self.old) }
         requires apart { first ≢ second }
         requires first_in { first < length (grouping_of self.old).lists }
@@ -78,18 +79,19 @@ impl Groups {
     }
 
     /// Appends the members of the group of `member` to `line`, in their order.
-    pub fn put_group(&self, member: usize, line: &mut Vec<usize>) -> Result<(), AllocError>
+    pub fn put_group(&self, member: usize, line: &mut Vec<usize>) -> Result<(), NoMemory>
         requires grouped { IsGrouped (grouping_of self.now) }
         requires member_in { member < length (grouping_of self.now).lists }
         ensures { OnOk result (line.new.items ≡ line.old.items ++ group_of (grouping_of self.now) member) }
     {
         let (front, back) = self.lists[self.numbers[member]].as_slices();
         line.extend_from_slice(front)?;
-        line.extend_from_slice(back)
+        line.extend_from_slice(back)?;
+        Ok(())
     }
 
     /// For each member, the lowest member of its group.
-    pub fn lowest_members(&self, alloc: Global) -> Result<Vec<usize>, AllocError>
+    pub fn lowest_members(&self, alloc: Global) -> Result<Vec<usize>, NoMemory>
         requires grouped { IsGrouped (grouping_of self.now) }
         ensures len { IfOk result (λ v. length v.items ≡ length (grouping_of self.now).lists) }
         ensures same_group { IfOk result (λ v. (u : ℕ) → u < length (grouping_of self.now).lists →
@@ -105,7 +107,7 @@ impl Groups {
 }
 
 // For each index, the first index with the same number.
-fn lowest_of_groups(alloc: Global, numbers: &[usize]) -> Result<Vec<usize>, AllocError>
+fn lowest_of_groups(alloc: Global, numbers: &[usize]) -> Result<Vec<usize>, NoMemory>
     requires { All (λ q. q < length numbers.now) numbers.now }
     ensures len { IfOk result (λ v. length v.items ≡ length numbers.now) }
     ensures same_group { IfOk result (λ v. (u : ℕ) → u < length numbers.now →
@@ -131,7 +133,7 @@ fn put_in_front(
     many: &mut VecDeque<usize>,
     numbers: &mut [usize],
     number: usize,
-) -> Result<(), AllocError>
+) -> Result<(), NoMemory>
     requires { All (λ u. u < length numbers.old) few.items }
     ensures members { OnOk result (many.new.items ≡ few.items ++ many.old.items) }
     ensures numbers { OnOk result ((u : ℕ) → u < length numbers.old → slice_index numbers.new u ≡
@@ -150,7 +152,7 @@ fn put_at_end(
     many: &mut VecDeque<usize>,
     numbers: &mut [usize],
     number: usize,
-) -> Result<(), AllocError>
+) -> Result<(), NoMemory>
     requires { All (λ u. u < length numbers.old) few.items }
     ensures members { OnOk result (many.new.items ≡ many.old.items ++ few.items) }
     ensures numbers { OnOk result ((u : ℕ) → u < length numbers.old → slice_index numbers.new u ≡

@@ -25,9 +25,9 @@ use crate::unit_order::place_units;
 use crate::units::units_of;
 use edge_profile::Profile;
 use edge_profile::weights::block_weights;
-use rb_bytes::fault::{Fault, FaultKind, Refusal};
+use rb_bytes::fault::{Fault, FaultKind, NoMemory, Refusal};
 use rv_code::{Block, Chains, Func, Plan};
-use std::alloc::{AllocError, Global};
+use std::alloc::Global;
 
 /// All blocks in their new order, by the counts of a profile; or the first of the faults `UnitTooLong` and
 /// `KeptBranch`. `chains` has the blocks of the hot and the cold part of each function.
@@ -138,7 +138,7 @@ fn order_blocks(
     weights: &[u128],
     units: &[usize],
     sizes: &[u128],
-) -> Result<Vec<usize>, AllocError>
+) -> Result<Vec<usize>, NoMemory>
     requires funcs { AreLaidOut funcs.now }
     requires blocks { All (IsOfFunction funcs.now) blocks.now }
     requires hot { length chains.now.hot.items ≡ length funcs.now }

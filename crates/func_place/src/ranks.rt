@@ -7,11 +7,12 @@ ghost use Rattle.func_place.specs.Ranks.{IsInOrder, hotter, denser_by, denser, c
 ghost use Rattle.func_place.specs.internal.ClusterState.{state_of, count_of, heat_at, Keeps, IsValidState};
 
 use crate::clusters::Clusters;
-use std::alloc::{AllocError, Global};
+use rb_bytes::fault::NoMemory;
+use std::alloc::Global;
 use std::cmp::{Ordering, Reverse};
 
 /// The hot units in the order in which they are taken: by greater heat, and then by lower number.
-pub fn hot_order(alloc: Global, heats: &[u128]) -> Result<Vec<usize>, AllocError>
+pub fn hot_order(alloc: Global, heats: &[u128]) -> Result<Vec<usize>, NoMemory>
     ensures ordered { IfOk result (λ v. IsInOrder (hotter heats.now) (hot_units heats.now) v.items) }
     ensures inside { IfOk result (λ v. All (λ u. u < length heats.now) v.items) }
     ensures hot { IfOk result (λ v. All (λ u. 0 < slice_index heats.now u) v.items) }
@@ -54,7 +55,7 @@ fn compare(a: &Rank, b: &Rank) -> Ordering
 }
 
 // Sorts clusters by density.
-fn sort_ranks(ranks: &mut Vec<Rank>) -> Result<(), AllocError>
+fn sort_ranks(ranks: &mut Vec<Rank>) -> Result<(), NoMemory>
     ensures { IfOk result (λ _. IsInOrder
         (λ a b. denser_by a.heat a.size a.unit b.heat b.size b.unit) ranks.old.items ranks.new.items) }
 {
@@ -68,7 +69,7 @@ pub fn rank_clusters(
     alloc: Global,
     clusters: &Clusters,
     taken: &[usize],
-) -> Result<Vec<usize>, AllocError>
+) -> Result<Vec<usize>, NoMemory>
     requires sound { IsValidState (state_of clusters.now) }
     requires taken_in { All (λ u. u < count_of (state_of clusters.now)) taken.now }
     requires hot { All (λ u. 0 < heat_at (state_of clusters.now) u) taken.now }

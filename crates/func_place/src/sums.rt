@@ -4,8 +4,9 @@ ghost use Rattle.rv_code.specs.declared.placed.Block.{Block};
 ghost use Rattle.func_place.specs.Units.{unit_sum, unit_part, by_unit};
 ghost use Rattle.func_place.specs.internal.Groups.{list_at};
 
+use rb_bytes::fault::NoMemory;
 use rv_code::Block;
-use std::alloc::{AllocError, Global};
+use std::alloc::Global;
 
 /// For each unit the sum of `numbers` over its blocks; `numbers` has one for each block. `units` has the unit of each
 /// function. An index that isn't a unit has the sum 0.
@@ -14,7 +15,7 @@ pub fn sums_of(
     units: &[usize],
     blocks: &[Block],
     numbers: &[u128],
-) -> Result<Vec<u128>, AllocError>
+) -> Result<Vec<u128>, NoMemory>
     requires inside { All (λ u. u < length units.now) units.now }
     requires blocks_in { All (λ b. b.func < length units.now) blocks.now }
     requires numbers_len { length numbers.now ≡ length blocks.now }
@@ -37,7 +38,7 @@ pub fn parts_of(
     alloc: Global,
     units: &[usize],
     parts: &[Vec<usize>],
-) -> Result<Vec<Vec<usize>>, AllocError>
+) -> Result<Vec<Vec<usize>>, NoMemory>
     requires inside { All (λ u. u < length units.now) units.now }
     requires parts_len { length parts.now ≡ length units.now }
     ensures len { IfOk result (λ v. length v.items ≡ length units.now) }

@@ -5,13 +5,14 @@ ghost use Rattle.rv_code.specs.layout.FunctionMembers.{function_at};
 ghost use Rattle.rb_bytes.specs.Lists.{Gains};
 ghost use Rattle.func_place.specs.internal.TieList.{Ties, TiesOf, TiesFrom, TiesAt};
 
+use rb_bytes::fault::NoMemory;
 use rv_code::Func;
 use rv_code::flow::{fall_target, target};
 use rv_code::functions::{func_holds, function_at};
-use std::alloc::{AllocError, Global};
+use std::alloc::Global;
 
 /// The pairs of a function and another one into which it leads, as indices. A pair can occur more than once.
-pub fn ties(alloc: Global, funcs: &[Func]) -> Result<Vec<(usize, usize)>, AllocError>
+pub fn ties(alloc: Global, funcs: &[Func]) -> Result<Vec<(usize, usize)>, NoMemory>
     requires { AreLaidOut funcs.now }
     ensures { IfOk result (λ v. Gains [] v.items (Ties funcs.now)) }
 {
@@ -23,11 +24,7 @@ pub fn ties(alloc: Global, funcs: &[Func]) -> Result<Vec<(usize, usize)>, AllocE
 }
 
 // Appends the pairs of the function with index `place`.
-fn put_ties_of(
-    ties: &mut Vec<(usize, usize)>,
-    funcs: &[Func],
-    place: usize,
-) -> Result<(), AllocError>
+fn put_ties_of(ties: &mut Vec<(usize, usize)>, funcs: &[Func], place: usize) -> Result<(), NoMemory>
     requires funcs { AreLaidOut funcs.now }
     requires inside { place < length funcs.now }
     ensures { OnOk result (Gains ties.old.items ties.new.items (TiesOf funcs.now place)) }
@@ -46,7 +43,7 @@ fn put_ties_from(
     place: usize,
     func: &Func,
     i: usize,
-) -> Result<(), AllocError>
+) -> Result<(), NoMemory>
     requires funcs { AreLaidOut funcs.now }
     requires is_func { slice_get funcs.now place ≡ Some func.now }
     requires inside { place < length funcs.now }
@@ -66,7 +63,7 @@ fn put_tie(
     funcs: &[Func],
     place: usize,
     to: Option<u64>,
-) -> Result<(), AllocError>
+) -> Result<(), NoMemory>
     requires funcs { AreLaidOut funcs.now }
     requires inside { place < length funcs.now }
     ensures { OnOk result (Gains ties.old.items ties.new.items (λ t. (a : ℕ) × (to ≡
@@ -83,7 +80,7 @@ fn put_tie_at(
     funcs: &[Func],
     place: usize,
     address: u64,
-) -> Result<(), AllocError>
+) -> Result<(), NoMemory>
     requires funcs { AreLaidOut funcs.now }
     requires inside { place < length funcs.now }
     ensures { OnOk result (Gains ties.old.items ties.new.items (TiesAt funcs.now place address)) }

@@ -4,9 +4,10 @@ ghost use Rattle.rv_code.specs.layout.FunctionLists.{AreLaidOut};
 ghost use Rattle.func_place.specs.Placement.{unit_call, unit_calls};
 
 use crate::calls::UnitCall;
+use rb_bytes::fault::NoMemory;
 use rv_code::Func;
 use rv_code::functions::function_at;
-use std::alloc::{AllocError, Global};
+use std::alloc::Global;
 
 /// The counts of `pairs` as counts between the units of their addresses, for pairs with both addresses in functions.
 /// `units` has the unit of each function.
@@ -15,7 +16,7 @@ pub fn calls_of(
     funcs: &[Func],
     units: &[usize],
     pairs: &[(u64, u64, u128)],
-) -> Result<Vec<UnitCall>, AllocError>
+) -> Result<Vec<UnitCall>, NoMemory>
     requires { AreLaidOut funcs.now }
     ensures { IfOk result (λ v. v.items ≡ unit_calls funcs.now units.now pairs.now) }
 {

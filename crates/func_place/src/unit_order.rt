@@ -9,7 +9,8 @@ use crate::bands::order_units;
 use crate::calls::UnitCall;
 use crate::clusters::cluster_units;
 use crate::ranks::{hot_order, rank_clusters};
-use std::alloc::{AllocError, Global};
+use rb_bytes::fault::NoMemory;
+use std::alloc::Global;
 
 /// The blocks of all units in their new order: clusters of hot units by density, and then the cold units by number. All
 /// arguments but `calls` have an entry for each unit; an index that isn't a unit counts as a cold unit without blocks.
@@ -20,7 +21,7 @@ pub fn place_units(
     calls: &[UnitCall],
     hot: &[Vec<usize>],
     cold: &[Vec<usize>],
-) -> Result<Vec<usize>, AllocError>
+) -> Result<Vec<usize>, NoMemory>
     requires sizes_in { AreWithinLimit sizes.now }
     requires sizes_some { (u : ℕ) → u < length sizes.now → 0 < slice_index heats.now u → 0 < slice_index sizes.now u }
     requires heats_len { length heats.now ≡ length sizes.now }
@@ -42,7 +43,7 @@ pub fn place_units(
 }
 
 // Appends the cold units, by number.
-fn put_cold(heats: &[u128], line: &mut Vec<usize>) -> Result<(), AllocError>
+fn put_cold(heats: &[u128], line: &mut Vec<usize>) -> Result<(), NoMemory>
     ensures line { OnOk result (line.new.items ≡ line.old.items ++ cold_units heats.now) }
     ensures inside { OnOk result (All (λ u. u < length heats.now) line.old.items → All
         (λ u. u < length heats.now) line.new.items) }

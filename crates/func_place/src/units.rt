@@ -7,11 +7,12 @@ ghost use Rattle.func_place.specs.internal.TieList.{IsTied, Agrees, AreTogether}
 
 use crate::groups::Groups;
 use crate::ties::ties;
+use rb_bytes::fault::NoMemory;
 use rv_code::Func;
-use std::alloc::{AllocError, Global};
+use std::alloc::Global;
 
 /// For each function its unit, which has the number of its lowest function.
-pub fn units_of(alloc: Global, funcs: &[Func]) -> Result<Vec<usize>, AllocError>
+pub fn units_of(alloc: Global, funcs: &[Func]) -> Result<Vec<usize>, NoMemory>
     requires { AreLaidOut funcs.now }
     ensures units { IfOk result (λ v. AreUnits funcs.now v.items) }
     ensures inside { IfOk result (λ v. All (λ u. u < length funcs.now) v.items) }
@@ -23,7 +24,7 @@ pub fn units_of(alloc: Global, funcs: &[Func]) -> Result<Vec<usize>, AllocError>
 }
 
 // The numbers below `n` in groups, by the pairs that tie them together.
-fn group_tied(alloc: Global, n: usize, ties: &[(usize, usize)]) -> Result<Groups, AllocError>
+fn group_tied(alloc: Global, n: usize, ties: &[(usize, usize)]) -> Result<Groups, NoMemory>
     requires { All (λ t. (t.0 < n) × (t.1 < n)) ties.now }
     ensures len { IfOk result (λ g. length (grouping_of g).lists ≡ n) }
     ensures grouped { IfOk result (λ g. IsGrouped (grouping_of g)) }
@@ -38,7 +39,7 @@ fn group_tied(alloc: Global, n: usize, ties: &[(usize, usize)]) -> Result<Groups
 }
 
 // Joins the groups of `a` and `b`, unless they are the same group.
-fn tie(alloc: Global, groups: &mut Groups, a: usize, b: usize) -> Result<(), AllocError>
+fn tie(alloc: Global, groups: &mut Groups, a: usize, b: usize) -> Result<(), NoMemory>
     requires grouped { IsGrouped (grouping_of groups.old) }
     requires a_in { a < length (grouping_of groups.old).lists }
     requires b_in { b < length (grouping_of groups.old).lists }
