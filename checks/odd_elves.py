@@ -39,6 +39,7 @@ from odd.shape import ODDITIES, UNWRITABLE, Shape
 OK, REFUSED, OUT_OF_MEMORY = 0, 221, 224
 SECONDS, TIMED_OUT = 60, -1000
 SHT_SYMTAB, SHT_RELA, SYMBOL_SIZE = 2, 4, 24
+PT_NOTE, NOTE_HEADER = 4, 12
 
 
 def make(rng, only):
@@ -89,6 +90,25 @@ class Headers:
         """Its offset says nothing, and doesn't pass the written file's end."""
         return self.programs[program][5] == 0
 
+    def unread_notes(self, program):
+        """The bytes of a segment whose notes libelf doesn't read, with its padding of them; nothing of another one."""
+        kind, _, offset, _, _, size, _, align = self.programs[program]
+        notes, padding = self.data[offset:offset + size], 8 if align == 8 else 4
+        return None if kind != PT_NOTE or are_whole(notes, padding) else (notes, padding)
+
+
+def are_whole(notes, padding):
+    """Whether bytes hold notes whose names and descriptors are all padded to a multiple of that. If a segment is
+    aligned to another one than its notes are padded to, or ends before the last padding, libelf reads none."""
+    at = 0
+    while at < len(notes):
+        if len(notes) < at + NOTE_HEADER:
+            return False
+        name, descriptor = struct.unpack_from("<II", notes, at)
+        for length in (NOTE_HEADER + name, descriptor):
+            at += length + -(at + length) % padding
+    return at == len(notes)
+
 
 def is_no_matter(line, headers, written):
     """Complaints that are due to what a written file is, by the headers of its input and its own."""
@@ -99,6 +119,10 @@ def is_no_matter(line, headers, written):
             return True
         if "alloc flag set but section not in any loaded segment" in line and headers.is_table_of_names(number):
             return True
+    note = re.match(r"phdr\[(\d+)\]: cannot get content of note section", line)
+    if note:  # of the input too: the line goes on with libelf's last error, and that is of a call before
+        notes = written.unread_notes(int(note[1]))
+        return notes is not None and notes in map(headers.unread_notes, range(len(headers.programs)))
     symbol = re.search(r"section \[ *(\d+)\] '[^']*': symbol (\d+) \([^)]*\): st_value out of bounds", line)
     if symbol:
         home = written.home(int(symbol[1]), int(symbol[2]))
