@@ -11,9 +11,10 @@ use crate::block_insts::{begins_of, first_address, planned};
 use crate::endings::{lead_of, shortest_form};
 use crate::growth::BlockEnd;
 use crate::lookup::{find, places_in};
+use rb_bytes::fault::NoMemory;
 use rv_code::functions::block_starts;
 use rv_code::{Block, Form, Func};
-use std::alloc::{AllocError, Global};
+use std::alloc::Global;
 
 /// The end of each block, and its shortest form, in the plan's order.
 pub fn ends(
@@ -21,7 +22,7 @@ pub fn ends(
     funcs: &[Func],
     blocks: &[Block],
     order: &[usize],
-) -> Result<(Vec<BlockEnd>, Vec<Form>), AllocError>
+) -> Result<(Vec<BlockEnd>, Vec<Form>), NoMemory>
     requires laid { AreLaidOut funcs.now }
     requires direct { AreDirect funcs.now }
     requires blocks { AreBlocksOf funcs.now blocks.now }

@@ -7,8 +7,9 @@ ghost use Rattle.branch_fixup.specs.Growth.{block_offset};
 
 use crate::lengths::{form_reach, longer, piece_length, reaches};
 use crate::settling::settle;
+use rb_bytes::fault::NoMemory;
 use rv_code::Form;
-use std::alloc::{AllocError, Global};
+use std::alloc::Global;
 
 // The number of passes over all blocks after which forms grow one at a time.
 const PASSES: u8 = 8;
@@ -31,7 +32,7 @@ pub(crate) fn places(
     alloc: Global,
     block_ends: &[BlockEnd],
     forms: &[Form],
-) -> Result<Vec<u64>, AllocError>
+) -> Result<Vec<u64>, NoMemory>
     requires one_each { length forms.now ≡ length block_ends.now }
     requires block_ends { AreBlockEnds block_ends.now }
     ensures len { IfOk result (λ v. length v.items ≡ length block_ends.now + 1) }
@@ -96,7 +97,7 @@ fn grow_once(block_ends: &[BlockEnd], places: &[u64], forms: &mut [Form]) -> boo
 }
 
 /// Makes the shortest forms longer until each reaches. A form that grew doesn't shrink, so the rounds end.
-pub fn grow(alloc: Global, block_ends: &[BlockEnd], forms: &mut [Form]) -> Result<(), AllocError>
+pub fn grow(alloc: Global, block_ends: &[BlockEnd], forms: &mut [Form]) -> Result<(), NoMemory>
     requires block_ends { AreBlockEnds block_ends.now }
     requires sound { AreGrown block_ends.now forms.old }
     ensures sound { OnOk result (AreGrown block_ends.now forms.new) }

@@ -2,11 +2,12 @@
 ghost use Rattle.std.specs.Prelude.{◌≡◌, ◌≢◌, ◌<◌, ◌≤◌, ℕ, IfOk, All, AllPairs, length, slice_index, slice_index_or};
 ghost use Rattle.branch_fixup.specs.Lookup.{ArePlaces, Finds};
 
+use rb_bytes::fault::NoMemory;
 use rb_lanes::count_below;
-use std::alloc::{AllocError, Global};
+use std::alloc::Global;
 
 /// For each number below the length of `order` its index in `order`.
-pub fn places_in(alloc: Global, order: &[usize]) -> Result<Vec<usize>, AllocError>
+pub fn places_in(alloc: Global, order: &[usize]) -> Result<Vec<usize>, NoMemory>
     requires below { All (λ m. m < length order.now) order.now }
     requires differ { AllPairs (λ m n. m ≢ n) order.now }
     ensures length { IfOk result (λ places. length places.items ≡ length order.now) }

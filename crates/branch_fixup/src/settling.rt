@@ -8,8 +8,9 @@ ghost use Rattle.branch_fixup.specs.Ways.{crosses, is_enough_by, AreStarts, AreL
 
 use crate::growth::{BlockEnd, places};
 use crate::lengths::{form_reach, longer, piece_length, reaches};
+use rb_bytes::fault::NoMemory;
 use rv_code::Form;
-use std::alloc::{AllocError, Global};
+use std::alloc::Global;
 use std::ops::Range;
 
 // The longest reach of a form that can grow.
@@ -18,7 +19,7 @@ const REACH: u64 = 1 << 12;
 /// Grows forms one at a time until each reaches. Ways of more than `REACH` bytes aren't tracked: a form that can grow
 /// doesn't reach that far, so it grows anyway. It isn't proved that no form is missed, so a pass over all blocks has to
 /// confirm it.
-pub fn settle(alloc: Global, block_ends: &[BlockEnd], forms: &mut [Form]) -> Result<(), AllocError>
+pub fn settle(alloc: Global, block_ends: &[BlockEnd], forms: &mut [Form]) -> Result<(), NoMemory>
     requires block_ends { AreBlockEnds block_ends.now }
     requires sound { AreGrown block_ends.now forms.old }
     ensures sound { OnOk result (AreGrown block_ends.now forms.new) }
@@ -91,7 +92,7 @@ impl<'a> Settling<'a> {
         p: usize,
         bytes: u64,
         short: &mut Vec<usize>,
-    ) -> Result<(), AllocError>
+    ) -> Result<(), NoMemory>
         requires count { length more.old ≡ length self.now.block_ends.now }
         requires one_each { length forms.now ≡ length self.now.block_ends.now }
         requires longer { AreLonger self.now.block_ends.now self.now.places.now forms.now more.old }
@@ -122,7 +123,7 @@ impl<'a> Settling<'a> {
         more: &mut [u64],
         k: usize,
         short: &mut Vec<usize>,
-    ) -> Result<bool, AllocError>
+    ) -> Result<bool, NoMemory>
         requires inside { k < length self.now.block_ends.now }
         requires settling { AreSettling self.now.block_ends.now self.now.places.now forms.old more.old }
         requires listed { All (λ k. k < length self.now.block_ends.now) short.old.items }
@@ -155,7 +156,7 @@ impl<'a> Settling<'a> {
         more: &mut [u64],
         blocks: &[usize],
         short: &mut Vec<usize>,
-    ) -> Result<bool, AllocError>
+    ) -> Result<bool, NoMemory>
         requires inside { All (λ k. k < length self.now.block_ends.now) blocks.now }
         requires settling { AreSettling self.now.block_ends.now self.now.places.now forms.old more.old }
         requires listed { All (λ k. k < length self.now.block_ends.now) short.old.items }
@@ -176,7 +177,7 @@ impl<'a> Settling<'a> {
     }
 
     // The blocks whose forms don't reach before any form has grown.
-    fn short_blocks(&self, alloc: Global, forms: &[Form]) -> Result<Vec<usize>, AllocError>
+    fn short_blocks(&self, alloc: Global, forms: &[Form]) -> Result<Vec<usize>, NoMemory>
         requires { length forms.now ≡ length self.now.block_ends.now }
         ensures { IfOk result (λ short. All (λ k. k < length self.now.block_ends.now) short.items) }
     {
@@ -196,7 +197,7 @@ impl<'a> Settling<'a> {
         forms: &mut [Form],
         more: &mut [u64],
         mut blocks: Vec<usize>,
-    ) -> Result<(), AllocError>
+    ) -> Result<(), NoMemory>
         requires inside { All (λ k. k < length self.now.block_ends.now) blocks.items }
         requires settling { AreSettling self.now.block_ends.now self.now.places.now forms.old more.old }
         ensures sound { OnOk result (AreGrown self.now.block_ends.now forms.new) }
@@ -224,7 +225,7 @@ struct Crossings {
 }
 
 impl Crossings {
-    fn new(alloc: Global, block_ends: &[BlockEnd], places: &[u64]) -> Result<Crossings, AllocError>
+    fn new(alloc: Global, block_ends: &[BlockEnd], places: &[u64]) -> Result<Crossings, NoMemory>
         requires block_ends { AreBlockEnds block_ends.now }
         requires starts { AreStarts block_ends.now places.now }
         ensures { IfOk result (λ over. length over.starts.items ≡ length block_ends.now) }
@@ -261,7 +262,7 @@ fn near(block_ends: &[BlockEnd], places: &[u64], k: usize) -> usize
 }
 
 // `Crossings::ends`: the running maximum of `near`, from the first block on.
-fn ends_of(alloc: Global, block_ends: &[BlockEnd], places: &[u64]) -> Result<Vec<usize>, AllocError>
+fn ends_of(alloc: Global, block_ends: &[BlockEnd], places: &[u64]) -> Result<Vec<usize>, NoMemory>
     requires block_ends { AreBlockEnds block_ends.now }
     requires starts { AreStarts block_ends.now places.now }
 {
@@ -275,11 +276,7 @@ fn ends_of(alloc: Global, block_ends: &[BlockEnd], places: &[u64]) -> Result<Vec
 }
 
 // `Crossings::starts`: the running minimum of `near`, from the last block back.
-fn starts_of(
-    alloc: Global,
-    block_ends: &[BlockEnd],
-    places: &[u64],
-) -> Result<Vec<usize>, AllocError>
+fn starts_of(alloc: Global, block_ends: &[BlockEnd], places: &[u64]) -> Result<Vec<usize>, NoMemory>
     requires block_ends { AreBlockEnds block_ends.now }
     requires starts { AreStarts block_ends.now places.now }
     ensures { IfOk result (λ starts. length starts.items ≡ length block_ends.now) }

@@ -10,11 +10,12 @@ ghost use Rattle.branch_fixup.specs.Strips.{strips_of, pieces_of, pieces_of_stri
 use crate::block_insts::{BlockInsts, planned};
 use crate::lengths::piece_length;
 use addr_map::Span;
+use rb_bytes::fault::NoMemory;
 use rv_code::{Block, Form, Func, Placed};
-use std::alloc::{AllocError, Global};
+use std::alloc::Global;
 
 // Appends the spans of `insts`, which keep their lengths, from the address `at` on. Returns the address after them.
-fn put_inner(spans: &mut Vec<Span>, mut at: u64, insts: &[Placed]) -> Result<u64, AllocError>
+fn put_inner(spans: &mut Vec<Span>, mut at: u64, insts: &[Placed]) -> Result<u64, NoMemory>
     requires { end_from at (map as_it_is insts.now) < 2 ^ 64 }
     ensures spans { IfOk result (λ end. spans.new.items ≡ spans.old.items ++ laid_from at (map as_it_is insts.now)) }
     ensures end { IfOk result (λ end. end ≡ end_from at (map as_it_is insts.now)) }
@@ -37,7 +38,7 @@ fn put_block(
     at: u64,
     block: &BlockInsts,
     form: Form,
-) -> Result<u64, AllocError>
+) -> Result<u64, NoMemory>
     requires low { end_from at (pieces_of_strip (seen block.now) form) < 2 ^ 64 }
     requires short { block.now.last.len ≤ 4 }
     ensures spans { IfOk result (λ end.
@@ -62,7 +63,7 @@ pub fn spans(
     order: &[usize],
     forms: &[Form],
     base: u64,
-) -> Result<Vec<Span>, AllocError>
+) -> Result<Vec<Span>, NoMemory>
     requires laid { AreLaidOut funcs.now }
     requires blocks { AreBlocksOf funcs.now blocks.now }
     requires order { HasAllBlocks blocks.now order.now }

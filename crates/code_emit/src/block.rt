@@ -11,8 +11,8 @@ ghost use Rattle.code_emit.specs.Inputs.{AreLow, HasLowTargets};
 use crate::piece::put_piece;
 use addr_map::AddrMap;
 use branch_fixup::block_insts::BlockInsts;
+use rb_bytes::fault::NoMemory;
 use rv_code::{Form, Placed};
-use std::alloc::AllocError;
 
 // Appends instructions that keep their widths, from the new address `at` on. Returns the address after them.
 fn put_inner(
@@ -20,7 +20,7 @@ fn put_inner(
     moved: &AddrMap,
     mut at: u64,
     insts: &[Placed],
-) -> Result<u64, AllocError>
+) -> Result<u64, NoMemory>
     requires placed { PlacedFrom (new moved.now) at (map as_it_is insts.now) }
     requires can { AllCanBeEncoded (made_from (new moved.now) at (map as_it_is insts.now)) }
     requires lows { AreLow moved.now }
@@ -44,7 +44,7 @@ pub(crate) fn put_block(
     at: u64,
     block: &BlockInsts,
     form: Form,
-) -> Result<(), AllocError>
+) -> Result<(), NoMemory>
     requires fits { CanBePut (new moved.now) at (pieces_of_strip (seen block.now) form) }
     requires lows { AreLow moved.now }
     requires targets { All HasLowTargets (insts_in (seen block.now)) }

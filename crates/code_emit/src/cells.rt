@@ -7,8 +7,9 @@ ghost use Rattle.code_emit.specs.Output.{new_cell};
 
 use crate::anew::{distance, new_of};
 use addr_map::AddrMap;
+use rb_bytes::fault::NoMemory;
 use rv_code::{CellKind, CodeCell};
-use std::alloc::{AllocError, Global};
+use std::alloc::Global;
 
 // The new number of a cell: a new address, or the distance between two, in two's complement.
 fn number(moved: &AddrMap, kind: &CellKind) -> u64
@@ -44,7 +45,7 @@ pub fn contents(
     alloc: Global,
     moved: &AddrMap,
     cells: &[CodeCell],
-) -> Result<Vec<(u64, u8, u64)>, AllocError>
+) -> Result<Vec<(u64, u8, u64)>, NoMemory>
     requires lows { AreLow moved.now }
     requires cells { All IsLowCell cells.now }
     ensures { IfOk result (λ contents. contents.items ≡ map (new_cell (new moved.now)) cells.now) }

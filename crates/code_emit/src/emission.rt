@@ -23,7 +23,7 @@ use addr_map::AddrMap;
 use branch_fixup::block_insts::{begins_of, planned};
 use rb_bytes::fault::NoMemory;
 use rv_code::{Block, CodeCell, Emitted, Form, Func, Plan};
-use std::alloc::{AllocError, Global};
+use std::alloc::Global;
 
 // The start of the new code: the new address of the first block.
 fn code_start(funcs: &[Func], blocks: &[Block], order: &[usize], moved: &AddrMap) -> u64
@@ -46,7 +46,7 @@ fn code(
     order: &[usize],
     forms: &[Form],
     moved: &AddrMap,
-) -> Result<Vec<u8>, AllocError>
+) -> Result<Vec<u8>, NoMemory>
     requires laid { AreLaidOut funcs.now }
     requires direct { All (LeadsToCode funcs.now) (insts_of funcs.now) }
     requires blocks { AreBlocksOf funcs.now blocks.now }

@@ -11,8 +11,8 @@ use crate::anew::{distance, kept, new_of, new_target, turned, with_distance};
 use crate::code::push;
 use addr_map::AddrMap;
 use branch_fixup::lengths::bytes_of_size;
+use rb_bytes::fault::NoMemory;
 use rv_code::{Form, Inst, Placed, Size, Width};
-use std::alloc::AllocError;
 
 fn width_of(bytes: u8) -> Width
     ensures { result ≡ width_of_bytes bytes }
@@ -22,7 +22,7 @@ fn width_of(bytes: u8) -> Width
 
 // Appends an instruction in `bytes` bytes, two or four.
 #[tactic(auto, using(crate::proofs::Coded::adds_as_long))]
-fn put(code: &mut Vec<u8>, inst: &Inst, bytes: u8) -> Result<(), AllocError>
+fn put(code: &mut Vec<u8>, inst: &Inst, bytes: u8) -> Result<(), NoMemory>
     requires { CanBeEncoded (record { inst = inst.now; bytes = bytes }) }
     ensures ok { OnOk result (Adds code.old.items code.new.items (record { inst = inst.now; bytes = bytes } ∷ [])) }
 {
@@ -30,7 +30,7 @@ fn put(code: &mut Vec<u8>, inst: &Inst, bytes: u8) -> Result<(), AllocError>
 }
 
 // Appends a `JAL x0` to `to`, at `a`.
-fn put_jump(code: &mut Vec<u8>, to: u64, a: u64) -> Result<(), AllocError>
+fn put_jump(code: &mut Vec<u8>, to: u64, a: u64) -> Result<(), NoMemory>
     requires can { CanBeEncoded (jump_to to a) }
     requires to_low { to < 2 ^ 62 }
     requires low { a < 2 ^ 62 }
@@ -52,7 +52,7 @@ fn put_branch(
     inverted: bool,
     size: Size,
     a: u64,
-) -> Result<(), AllocError>
+) -> Result<(), NoMemory>
     requires can { AllCanBeEncoded (branch_to to inst.now inverted size a) }
     requires to_low { to < 2 ^ 62 }
     requires low { a < 2 ^ 61 }
@@ -99,7 +99,7 @@ fn put_added(
     p: &Placed,
     jump: bool,
     a: u64,
-) -> Result<(), AllocError>
+) -> Result<(), NoMemory>
     requires can { AllCanBeEncoded (added (new moved.now) p.now jump a) }
     requires lows { AreLow moved.now }
     requires low { a < 2 ^ 62 }
@@ -122,7 +122,7 @@ fn put_whole_branch(
     size: Size,
     jump: bool,
     a: u64,
-) -> Result<(), AllocError>
+) -> Result<(), NoMemory>
     requires can { AllCanBeEncoded (made (new moved.now) a p.now (Form.Branch inverted size jump)) }
     requires lows { AreLow moved.now }
     requires low { a < 2 ^ 61 }
@@ -149,7 +149,7 @@ pub(crate) fn put_piece(
     p: &Placed,
     form: Form,
     a: u64,
-) -> Result<(), AllocError>
+) -> Result<(), NoMemory>
     requires here { a ≡ new moved.now p.now.addr }
     requires can { AllCanBeEncoded (made (new moved.now) a p.now form) }
     requires lows { AreLow moved.now }

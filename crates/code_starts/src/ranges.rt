@@ -10,7 +10,7 @@ ghost use Rattle.code_starts.specs.Ranges.{section_extent, symbol_extent};
 use elf_image::extent::{Extent, is_covered, reaches_of, sort_by_start};
 use elf_image::{Elf, Section, Symbol};
 use rb_bytes::fault::NoMemory;
-use std::alloc::{AllocError, Global};
+use std::alloc::Global;
 
 /// Ranges of addresses. A single binary search decides whether one of them contains a given range.
 #[derive(Drop)]
@@ -51,15 +51,16 @@ fn section_extent(section: &Section) -> Extent
     }
 }
 
-fn section_extents(alloc: Global, sections: &[Section]) -> Result<Vec<Extent>, AllocError>
+fn section_extents(alloc: Global, sections: &[Section]) -> Result<Vec<Extent>, NoMemory>
     ensures { IfOk result (λ extents. extents.items ≡ map section_extent
         (filter (λ s. holds_code s.flags) sections.now)) }
 {
-    sections
+    let extents = sections
         .iter()
         .filter(|s| s.holds_code())
         .map(|s| section_extent(s))
-        .collect(alloc)
+        .collect(alloc)?;
+    Ok(extents)
 }
 
 /// The addresses of the executable sections.
@@ -80,14 +81,15 @@ fn symbol_extent(symbol: &Symbol) -> Extent
     }
 }
 
-fn symbol_extents(alloc: Global, symbols: &[Symbol]) -> Result<Vec<Extent>, AllocError>
+fn symbol_extents(alloc: Global, symbols: &[Symbol]) -> Result<Vec<Extent>, NoMemory>
     ensures { IfOk result (λ extents. extents.items ≡ map symbol_extent (filter names_function symbols.now)) }
 {
-    symbols
+    let extents = symbols
         .iter()
         .filter(|s| s.names_function())
         .map(|s| symbol_extent(s))
-        .collect(alloc)
+        .collect(alloc)?;
+    Ok(extents)
 }
 
 /// The addresses of function symbols.

@@ -16,7 +16,7 @@ use crate::ranges::Ranges;
 use elf_image::Elf;
 use elf_image::extent::Extent;
 use rb_bytes::fault::NoMemory;
-use std::alloc::{AllocError, Global};
+use std::alloc::Global;
 
 /// The whole parts, by address: an instruction of each starts in one of the ranges `tabled`, given by their starts and
 /// ends. `starts` and `parts` are those of the file.
@@ -53,10 +53,11 @@ fn tabled_extent(range: &(u64, u64)) -> Extent
     }
 }
 
-fn tabled_extents(alloc: Global, tabled: &[(u64, u64)]) -> Result<Vec<Extent>, AllocError>
+fn tabled_extents(alloc: Global, tabled: &[(u64, u64)]) -> Result<Vec<Extent>, NoMemory>
     ensures { IfOk result (λ extents. extents.items ≡ map tabled_extent tabled.now) }
 {
-    tabled.iter().map(|r| tabled_extent(r)).collect(alloc)
+    let extents = tabled.iter().map(|r| tabled_extent(r)).collect(alloc)?;
+    Ok(extents)
 }
 
 fn tabled_ranges(alloc: Global, tabled: &[(u64, u64)]) -> Result<Ranges, NoMemory>
