@@ -124,14 +124,13 @@ moved_permutation xs ys a p once_x once_y = settle (somewhere xs a none)
         let at : get_or xs there.0 none ≡ t = get_or_default xs there.0 none t there.1 ∙ there.2 in
         no_span there.0 there.1 (ap (λ t. t.input) at ∙ e)))
 
--- Columns ordered by old address give the same results as the lines.
-pub moved_columns : {spans lines sorted : List Span} {inputs outs : List ℕ} (a : ℕ) → AreInLineOrder spans lines
-    → AllPairs AreApart spans → IsPermutation lines sorted → inputs ≡ map (λ s. s.input) sorted → outs ≡ map (λ s. s.out) sorted
-    → moved_in inputs outs a ≡ moved lines a
-moved_columns {spans} {lines} {sorted} a o once p e f =
-    let once_lines = lines_apart o once in
-    let once_sorted = AllPairs-permutation AreApart apart_flip lines sorted p once_lines in
-    rw (e, f) (moved_parts sorted a ∙ sym (moved_permutation lines sorted a p once_lines once_sorted))
+-- Columns ordered by old address give the same results as the spans.
+pub moved_columns : {spans sorted : List Span} {inputs outs : List ℕ} (a : ℕ) → AllPairs AreApart spans
+    → IsPermutation spans sorted → inputs ≡ map (λ s. s.input) sorted → outs ≡ map (λ s. s.out) sorted
+    → moved_in inputs outs a ≡ moved spans a
+moved_columns {spans} {sorted} a once p e f =
+    let once_sorted = AllPairs-permutation AreApart apart_flip spans sorted p once in
+    rw (e, f) (moved_parts sorted a ∙ sym (moved_permutation spans sorted a p once once_sorted))
 
 -- Sorted by old address.
 pub rising_inputs : (xs : List Span) → IsNonDecreasingBy (λ s. s.input) xs → AllPairs AreApart xs

@@ -8,7 +8,7 @@ ghost use Rattle.addr_map.specs.Spans.{ShareNoByte, moved, new, owner};
 
 use crate::new_order::NewOrder;
 use crate::old_order::OldOrder;
-use crate::order::{sort_by_input, sort_by_line};
+use crate::order::sort_by_line;
 use crate::span::Span;
 use crate::text::{append_text, print_text};
 use rb_bytes::fault::NoMemory;
@@ -37,9 +37,9 @@ impl Model for AddrMap {
 }
 
 impl AddrMap {
-    /// Makes a map from its spans, in any order: one for each instruction, and no byte in two of them. It takes the
-    /// time of two sorts, which are fast on long runs of sorted spans, and about 65 bytes of memory for each span, of
-    /// which the map keeps about 40.
+    /// Makes a map from its spans, in any order: one for each instruction, and no byte in two of them. Spans in the
+    /// order of lines take little more than the sort of their blocks by old address. The memory is about 65 bytes for
+    /// each span, of which the map keeps about 40.
     pub fn new(alloc: Global, spans: Vec<Span>) -> Result<AddrMap, NoMemory>
         requires once { AllPairs (λ s t. s.input ≢ t.input) spans.items }
         requires disjoint { AllPairs ShareNoByte spans.items }
@@ -47,9 +47,8 @@ impl AddrMap {
     {
         let mut spans = spans;
         sort_by_line(&mut spans)?;
-        let by_new = NewOrder::new(alloc, &spans)?;
-        sort_by_input(&mut spans)?;
         let by_old = OldOrder::new(alloc, &spans)?;
+        let by_new = NewOrder::new(alloc, &spans)?;
         Ok(AddrMap { by_new, by_old })
     }
 

@@ -8,6 +8,7 @@ mod new_order;
 mod old_order;
 mod order;
 pub mod span;
+mod stretches;
 mod text;
 
 pub use addr_map::AddrMap;

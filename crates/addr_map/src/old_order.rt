@@ -1,8 +1,10 @@
 // The map ordered by old address.
-ghost use Rattle.std.specs.Prelude.{◌≡◌, IfOk, length, map};
-ghost use Rattle.addr_map.specs.internal.Orders.{IsRising, moved_in};
+ghost use Rattle.std.specs.Prelude.{◌≡◌, ℕ, AllPairs, IfOk, length};
+ghost use Rattle.addr_map.specs.Spans.{moved};
+ghost use Rattle.addr_map.specs.internal.Orders.{AreApart, IsRising, moved_in};
 
 use crate::fields::{inputs_of, outs_of};
+use crate::order::by_input;
 use crate::span::Span;
 use rb_bytes::fault::NoMemory;
 use rb_lanes::{Hints, count_below};
@@ -19,15 +21,16 @@ pub(crate) struct OldOrder {
 }
 
 impl OldOrder {
-    /// A map from the spans in the order of their old addresses.
+    /// A map from spans in any order.
     pub(crate) fn new(alloc: Global, spans: &[Span]) -> Result<OldOrder, NoMemory>
-        requires { IsRising (map (λ s. s.input) spans.now) }
-        ensures inputs { IfOk result (λ order. order.inputs.items ≡ map (λ s. s.input) spans.now) }
-        ensures outs { IfOk result (λ order. order.outs.items ≡ map (λ s. s.out) spans.now) }
+        requires { AllPairs AreApart spans.now }
+        ensures { IfOk result (λ order. (a : ℕ) →
+            moved_in order.inputs.items order.outs.items a ≡ moved spans.now a) }
     {
-        let inputs = inputs_of(alloc, spans)?;
+        let sorted = by_input(alloc, spans)?;
+        let inputs = inputs_of(alloc, &sorted)?;
         let hints = Hints::new(alloc, &inputs)?;
-        let outs = outs_of(alloc, spans)?;
+        let outs = outs_of(alloc, &sorted)?;
         Ok(OldOrder {
             inputs,
             hints,
