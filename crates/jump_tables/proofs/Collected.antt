@@ -10,7 +10,7 @@ use Rattle.rv_code.specs.layout.Edges.{IsTableJump, AreTablePairs}
 use Rattle.rv_code.specs.layout.Lists.{IsPairBefore}
 use Rattle.rv_code.specs.layout.ProgramCode.{CellNames}
 use Rattle.rb_bytes.specs.Lists.{Gains}
-use Rattle.jump_tables.specs.TablePairs.{IsLabel, IsPairOf}
+use Rattle.jump_tables.specs.TablePairs.{HasTableJump, IsLabel, IsPairOf}
 
 -- A default for indices past the end of a list of instructions.
 abbrev pub no_inst : Placed
@@ -71,4 +71,16 @@ AreTablePairs-all funcs cells named pairs names ordered are = record {
       let (k, within, is) = pair.is_func in
       (are e).1 (k, pair.func, within, is, (pair.jumps, (pair.goes_to, (names e.1).1 pair.named)));
   ordered = ordered;
+}
+
+-- Without a jump through a table there is no pair.
+pub AreTablePairs-none : (funcs : List Func) (cells : List CodeCell) (pairs : List (ℕ × ℕ)) → pairs ≡ [] →
+    (Any HasTableJump funcs → ⊥) → AreTablePairs funcs cells pairs
+AreTablePairs-none funcs cells pairs none no_jump = record {
+  only = λ e is_in. absurd (let (k, within, there) = subst (λ (xs : List (ℕ × ℕ)). Contains xs e) none is_in in omega arith);
+  each = λ e pair.
+      let (k, within, is) = pair.is_func in
+      let (j, p, inside, at, (starts, jumps)) = pair.jumps in
+      absurd (no_jump (k, pair.func, within, is, record { jumps = (j, p, inside, at, jumps) }));
+  ordered = subst (AllPairs IsPairBefore) (sym none) (λ i j d less within. absurd (omega arith));
 }

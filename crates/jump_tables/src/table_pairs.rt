@@ -3,7 +3,7 @@ ghost use Rattle.std.specs.Prelude.{◌≡◌, ◌<◌, ◌↔◌, ℕ, AllPairs
 ghost use Rattle.rv_code.specs.layout.Edges.{AreTablePairs, IsTableJump};
 ghost use Rattle.rv_code.specs.layout.Lists.{IsPairBefore};
 ghost use Rattle.rb_bytes.specs.Lists.{Gains};
-ghost use Rattle.jump_tables.specs.TablePairs.{IsPairOf};
+ghost use Rattle.jump_tables.specs.TablePairs.{HasTableJump, IsPairOf};
 
 use crate::labels::{labels, named_addresses};
 use file_bounds::JUMP_PAIRS;
@@ -21,13 +21,34 @@ pub fn tables(
 ) -> Result<Vec<(u64, u64)>, NoMemory>
     ensures { IfOk result (λ pairs. AreTablePairs funcs.now cells.now pairs.items) }
 {
-    let named = named_addresses(alloc, cells)?;
     let mut pairs = Vec::new(alloc);
+    if !any_jumps(funcs) {
+        return Ok(pairs);
+    }
+    let named = named_addresses(alloc, cells)?;
     for func in funcs {
         push_pairs(alloc, &mut pairs, &func.insts, &named)?;
     }
     make_ordered(&mut pairs);
     Ok(pairs)
+}
+
+// Whether a function has an indirect jump through a table.
+fn any_jumps(funcs: &[Func]) -> bool
+    ensures { Any HasTableJump funcs.now → IsTrue result }
+{
+    for func in funcs {
+        if jumps_by_table(func) {
+            return true;
+        }
+    }
+    false
+}
+
+fn jumps_by_table(func: &Func) -> bool
+    ensures { IsTrue result ↔ HasTableJump func.now }
+{
+    has_table_jump(&func.insts)
 }
 
 // Appends the pairs of the function with the instructions `insts`.

@@ -5,7 +5,7 @@ use Rattle.rv_code.specs.declared.placed.Func.{Func}
 use Rattle.rb_bytes.specs.Lists.{Gains}
 use Rattle.rb_bytes.proofs.Gains.{Given, gains_next, gains_all}
 use Rattle.jump_tables.specs.TablePairs.{IsPairOf}
-use Rattle.jump_tables.proofs.Collected.{all_gained, AreTablePairs-all}
+use Rattle.jump_tables.proofs.Collected.{all_gained, AreTablePairs-all, AreTablePairs-none}
 use Rattle.jump_tables.proofs.table_pairs.tables.Goals as goal
 
 pub push_pairs-requires : goal.push_pairs-requires
@@ -32,3 +32,8 @@ returns c =
     (gains_all (λ (f : Func) e. IsPairOf f.insts.items named e) c.args.funcs.now c.loop-func.func-index _ _
     (let upto = c.loop-func.auto.func-index-end in omega arith) c.loop-func.invariant)
     c.make_ordered.ensures.same)
+
+pub returns-then-not-any_jumps : goal.returns-then-not-any_jumps
+returns-then-not-any_jumps c =
+    AreTablePairs-none c.args.funcs.now c.args.cells.now c.new-pairs.result.items c.new-pairs.ensures.items
+    (λ has. let is = c.any_jumps.ensures has in let not = c.if-not-any_jumps.true in absurd (cc))
