@@ -8,7 +8,8 @@ use Rattle.rv_reloc.specs.declared.refs.Refs.{Refs}
 use Rattle.rb_bytes.specs.Lists.{Gains}
 use Rattle.rb_bytes.proofs.Gains.{gains_both}
 use Rattle.rb_bytes.proofs.ListLemmas.{from_flat, in_flat}
-use Rattle.cfg_build.specs.NamedAddresses.{code_of, AreEntered}
+use Rattle.cfg_build.specs.declared.address_set.AddressSet.{AddressSet}
+use Rattle.cfg_build.specs.NamedAddresses.{code_of, AreEntered, IsMember}
 
 -- A branch or jump of a function has the target `a`.
 abbrev pub IsGoal : List Func → ℕ → Type 0
@@ -34,17 +35,17 @@ only_entry : (entry a : ℕ) → Contains (entry ∷ []) a → entry ≡ a
 only_entry entry a (zero, within, is) = is
 only_entry entry a (suc k, within, is) = absurd (omega arith)
 
-pub AreEntered-lists : (funcs : List Func) (refs : Refs) (entry : ℕ) (one two three four last : List ℕ) → one ≡ entry ∷ [] →
-    Gains one two (IsGoal funcs) → Gains two three (λ a. Any (λ r. RoleNames r.1 a) refs.roles.items) →
-    Gains three four (λ a. Any (λ c. CellNames c a) refs.cells.items) → ((a : ℕ) → Contains last a ↔ Contains four a) →
-    AreEntered (code_of funcs refs entry) last
-AreEntered-lists funcs refs entry one two three four last first jumps roles cells same a = (out, back)
+pub AreEntered-lists : (funcs : List Func) (refs : Refs) (entry : ℕ) (one two three four : List ℕ) (set : AddressSet) →
+    one ≡ entry ∷ [] → Gains one two (IsGoal funcs) → Gains two three (λ a. Any (λ r. RoleNames r.1 a) refs.roles.items) →
+    Gains three four (λ a. Any (λ c. CellNames c a) refs.cells.items) → ((a : ℕ) → IsMember set a ↔ Contains four a) →
+    AreEntered (code_of funcs refs entry) set
+AreEntered-lists funcs refs entry one two three four set first jumps roles cells same a = (out, back)
   where
     all : Contains four a ↔ (Contains one a ⊎ ((IsGoal funcs a ⊎ HasRole refs a) ⊎ HasCell refs a))
     all = gains_both one three four (λ a. IsGoal funcs a ⊎ HasRole refs a) (HasCell refs)
         (gains_both one two three (IsGoal funcs) (HasRole refs) jumps roles) cells a
 
-    out : Contains last a → IsTarget funcs a ⊎ IsHeld (code_of funcs refs entry) a
+    out : IsMember set a → IsTarget funcs a ⊎ IsHeld (code_of funcs refs entry) a
     out listed = ⊎_elim
         (λ in_one. inr (by_entry (only_entry entry a (subst (λ (xs : List ℕ). Contains xs a) first in_one))))
         (λ either. ⊎_elim
@@ -53,11 +54,11 @@ AreEntered-lists funcs refs entry one two three four last first jumps roles cell
         either)
         (all.0 ((same a).0 listed))
 
-    held : IsHeld (code_of funcs refs entry) a → Contains last a
+    held : IsHeld (code_of funcs refs entry) a → IsMember set a
     held (by_role role) = (same a).1 (all.1 (inr (inl (inr role))))
     held (by_cell cell) = (same a).1 (all.1 (inr (inr cell)))
     held (by_entry is) =
         (same a).1 (all.1 (inl (subst (λ (xs : List ℕ). Contains xs a) (sym first) (0, omega arith, is))))
 
-    back : IsTarget funcs a ⊎ IsHeld (code_of funcs refs entry) a → Contains last a
+    back : IsTarget funcs a ⊎ IsHeld (code_of funcs refs entry) a → IsMember set a
     back either = ⊎_elim (λ goes. (same a).1 (all.1 (inr (inl (inl ((IsTarget-functions funcs a).1 goes)))))) held either

@@ -1,3 +1,4 @@
+mod AddressSets
 mod EdgeRows
 mod Entered
 pub mod layout

@@ -12,7 +12,8 @@ use Rattle.rv_code.specs.declared.placed.Block.{Block}
 use Rattle.rv_code.specs.layout.Blocks.{inst_at, func_of, EndsBlock, Begins, at_start, named, after_end, IsBlockOf, IsBlock}
 use Rattle.rv_code.specs.layout.Blocks.{IsBefore, AreBlocks}
 use Rattle.rv_code.specs.layout.ProgramCode.{ProgramCode, IsTarget, IsHeld}
-use Rattle.cfg_build.specs.NamedAddresses.{AreEntered}
+use Rattle.cfg_build.specs.declared.address_set.AddressSet.{AddressSet}
+use Rattle.cfg_build.specs.NamedAddresses.{AreEntered, IsMember}
 use Rattle.cfg_build.specs.BlockLists.{EndsAt, EndsBefore, AreBlocksBefore}
 use Rattle.rb_bytes.proofs.Options.{some_and, of_some}
 
@@ -29,8 +30,8 @@ module _ (code : ProgramCode) (func : Func) (i : ℕ) where
   ends_after p not_whole at ends =
       ((λ t. inr (after_end not_whole i refl (some_and EndsBlock (inst_at func i) p at ends))), (λ e. refl))
 
-  pub ends_before : (p q : Placed) (b : Bool) (entered : List ℕ) → (i + 1 ≡ length func.insts.items → ⊥) → func.whole ≡ false →
-      inst_at func i ≡ Some p → inst_at func (i + 1) ≡ Some q → (EndsBlock p → ⊥) → IsTrue b ↔ Contains entered q.addr →
+  pub ends_before : (p q : Placed) (b : Bool) (entered : AddressSet) → (i + 1 ≡ length func.insts.items → ⊥) → func.whole ≡ false →
+      inst_at func i ≡ Some p → inst_at func (i + 1) ≡ Some q → (EndsBlock p → ⊥) → IsTrue b ↔ IsMember entered q.addr →
       AreEntered code entered → IsTrue b ↔ EndsAt code func i
   ends_before p q b entered inner not_whole at next goes_on is are = (
     (λ t. inr (named not_whole (some_and (Enters code) (inst_at func (i + 1)) q next ((are q.addr).0 (is.0 t))))),

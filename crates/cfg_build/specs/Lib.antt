@@ -1,3 +1,4 @@
+pub mod AddressSets
 pub mod BlockLists
 pub mod EdgeLists
 pub mod NamedAddresses

@@ -1,13 +1,13 @@
 // Lists the basic blocks of functions.
-ghost use Rattle.std.specs.Prelude.{◌≡◌, ◌+◌, ◌<◌, ◌↔◌, ℕ, IfOk, OnOk, IsTrue, Some, AllPairs, length, slice_get};
+ghost use Rattle.std.specs.Prelude.{◌≡◌, ◌+◌, ◌<◌, ◌↔◌, ℕ, IfOk, OnOk, IsTrue, Some, length, slice_get};
 ghost use Rattle.rv_code.specs.layout.Blocks.{AreBlocks, Begins};
 ghost use Rattle.rv_code.specs.layout.ProgramCode.{ProgramCode};
 ghost use Rattle.cfg_build.specs.NamedAddresses.{code_of, AreEntered};
 ghost use Rattle.cfg_build.specs.BlockLists.{AreBlocksBefore, EndsAt};
 
+use crate::address_set::AddressSet;
 use crate::named::entered_addresses;
 use rb_bytes::fault::NoMemory;
-use rb_lanes::is_member_from;
 use rv_code::flow::ends_block;
 use rv_code::{Block, Func};
 use rv_reloc::Refs;
@@ -25,30 +25,26 @@ pub fn blocks(
 {
     let entered = entered_addresses(alloc, funcs, refs, entry)?;
     let mut blocks = Vec::new(alloc);
-    let mut near = 0;
     for (place, func) in funcs.iter().enumerate() {
-        push_blocks(&mut blocks, &entered, &mut near, place, func)?;
+        push_blocks(&mut blocks, &entered, place, func)?;
     }
     Ok(blocks)
 }
 
-// Appends the blocks of `func`, which is function `place`. `near` is the guess for `is_member_from`. It ascends with
-// the addresses of instructions, from function to function.
+// Appends the blocks of `func`, which is function `place`.
 fn push_blocks(
     blocks: &mut Vec<Block>,
-    entered: &[u64],
-    near: &mut usize,
+    entered: &AddressSet,
     place: usize,
     func: &Func,
 ) -> Result<(), NoMemory>
-    requires { AllPairs (λ a b. a < b) entered.now }
     ensures { OnOk result ((code : ProgramCode) → slice_get code.funcs place ≡ Some func.now →
         AreEntered code entered.now →
         AreBlocksBefore code place 0 blocks.old.items → AreBlocksBefore code (place + 1) 0 blocks.new.items) }
 {
     let mut first = 0;
     for last in 0..func.insts.len() {
-        if !ends_at(entered, near, func, last) {
+        if !ends_at(entered, func, last) {
             continue;
         }
         blocks.push(Block {
@@ -61,11 +57,9 @@ fn push_blocks(
     Ok(())
 }
 
-// Whether a block ends with instruction `i` of `func`. A function that moves as one piece is one block. `near` is the
-// guess for `is_member_from`.
-fn ends_at(entered: &[u64], near: &mut usize, func: &Func, i: usize) -> bool
-    requires inside { i < length func.now.insts.items }
-    requires entered { AllPairs (λ a b. a < b) entered.now }
+// Whether a block ends with instruction `i` of `func`. A function that moves as one piece is one block.
+fn ends_at(entered: &AddressSet, func: &Func, i: usize) -> bool
+    requires { i < length func.now.insts.items }
     ensures { (code : ProgramCode) → AreEntered code entered.now → IsTrue result ↔ EndsAt code func.now i }
 {
     if i + 1 == func.insts.len() {
@@ -77,5 +71,5 @@ fn ends_at(entered: &[u64], near: &mut usize, func: &Func, i: usize) -> bool
     if ends_block(&func.insts[i]) {
         return true;
     }
-    is_member_from(entered, near, func.insts[i + 1].addr)
+    entered.has(func.insts[i + 1].addr)
 }

@@ -1,10 +1,10 @@
 // The addresses at which blocks start since something refers to them.
-ghost use Rattle.std.specs.Prelude.{◌≡◌, ◌<◌, IfOk, OnOk, Any, AllPairs, Some};
+ghost use Rattle.std.specs.Prelude.{◌≡◌, IfOk, OnOk, Any, Some};
 ghost use Rattle.rv_code.specs.layout.Flow.{target_of};
 ghost use Rattle.rb_bytes.specs.Lists.{Gains};
 ghost use Rattle.cfg_build.specs.NamedAddresses.{code_of, AreEntered};
 
-use elf_image::function_bounds::make_ascending;
+use crate::address_set::AddressSet;
 use func_find::referred::{push_cells, push_roles};
 use rb_bytes::fault::NoMemory;
 use rb_bytes::lists::push_some;
@@ -13,24 +13,33 @@ use rv_code::{Func, Placed};
 use rv_reloc::Refs;
 use std::alloc::Global;
 
-/// The targets of branches and jumps of functions, and the addresses that a role, a cell or the entry point has,
-/// ascending.
+// The most marks of addresses for each address that is entered. Code of a usual file has fewer bytes.
+const MOST_MARKS: usize = 64;
+
+/// The targets of branches and jumps of functions, and the addresses that a role, a cell or the entry point has.
 pub fn entered_addresses(
     alloc: Global,
     funcs: &[Func],
     refs: &Refs,
     entry: u64,
-) -> Result<Vec<u64>, NoMemory>
-    ensures ascending { IfOk result (λ entered. AllPairs (λ a b. a < b) entered.items) }
-    ensures members { IfOk result (λ entered. AreEntered (code_of funcs.now refs.now entry) entered.items) }
+) -> Result<AddressSet, NoMemory>
+    ensures { IfOk result (AreEntered (code_of funcs.now refs.now entry)) }
 {
     let mut entered = Vec::new(alloc);
     entered.push(entry)?;
     push_targets(&mut entered, funcs)?;
     push_roles(&mut entered, &refs.roles)?;
     push_cells(&mut entered, &refs.cells)?;
-    make_ascending(&mut entered);
-    Ok(entered)
+    let (low, width) = bounds(funcs);
+    let most = entered.len().saturating_mul(MOST_MARKS);
+    AddressSet::new(alloc, &entered, low, width.min(most))
+}
+
+// The start of the first function, and the number of bytes from there to the end of the last one.
+fn bounds(funcs: &[Func]) -> (u64, usize) {
+    let low = funcs.first().map_or(0, |func| func.start);
+    let end = funcs.last().map_or(0, |func| func.end);
+    (low, end.saturating_sub(low) as usize)
 }
 
 // Appends the targets of branches and jumps of functions.

@@ -1,5 +1,5 @@
-use Rattle.std.proofs.Common.{sym, subst, arith}
-use Rattle.cfg_build.specs.NamedAddresses.{code_of, AreEntered}
+use Rattle.std.proofs.Common.{arith}
+use Rattle.cfg_build.specs.NamedAddresses.{code_of}
 use Rattle.cfg_build.proofs.Lookups.{at_index}
 use Rattle.cfg_build.proofs.PushedBlocks.{all_blocks}
 use Rattle.cfg_build.proofs.block_lists.blocks.Goals as goal
@@ -9,7 +9,7 @@ loop-place-preserved c =
     let code = code_of c.args.funcs.now c.args.refs.now c.args.entry in
     c.in_ok-push_blocks.ensures code
     (at_index c.args.funcs.now c.loop-place.place c.index-funcs-place.result c.loop-place-test.true c.index-funcs-place.is)
-    (subst (AreEntered code) (sym c.deref.ensures.value) c.in_ok-entered.ensures.members)
+    c.in_ok-entered.ensures
     c.loop-place.invariant
 
 pub returns : goal.returns

@@ -1,18 +1,16 @@
 use Rattle.std.proofs.Common.{◌∙◌, ap, subst, ℕ, List, [], ◌∷◌, ◌++◌}
-use Rattle.std.specs.Prelude.{Any}
-use Rattle.std.proofs.lemmas.List.Kept.{AllPairs-from_increasing}
+use Rattle.std.proofs.lemmas.Result.{IfOk-weaker}
+use Rattle.std.specs.Prelude.{◌↔◌, Any, Contains}
 use Rattle.rv_code.specs.declared.placed.Role.{Role}
 use Rattle.rv_code.specs.declared.cell.CodeCell.{CodeCell}
 use Rattle.rv_code.specs.layout.ProgramCode.{RoleNames, CellNames}
 use Rattle.rb_bytes.specs.Lists.{Gains}
+use Rattle.cfg_build.specs.NamedAddresses.{IsMember}
 use Rattle.cfg_build.proofs.Entered.{AreEntered-lists}
 use Rattle.cfg_build.proofs.named.entered_addresses.Goals as goal
 
-pub returns-clause-ascending : goal.returns-clause-ascending
-returns-clause-ascending c = AllPairs-from_increasing _ c.make_ascending.ensures.ascending
-
-pub returns-clause-members : goal.returns-clause-members
-returns-clause-members c =
+pub returns : goal.returns
+returns c =
     let two = c.push_targets.new.addresses.items in
     let three = c.push_roles.new.addresses.items in
     let four = c.push_cells.new.addresses.items in
@@ -21,6 +19,8 @@ returns-clause-members c =
     c.in_ok-push_roles.ensures in
     let cells = subst (λ (cs : List CodeCell). Gains three four (λ a. Any (λ x. CellNames x a) cs)) c.deref-2.ensures.value
     c.in_ok-push_cells.ensures in
-    AreEntered-lists c.args.funcs.now c.args.refs.now c.args.entry _ two three four _ first c.in_ok-push_targets.ensures roles
-    cells
-    c.make_ascending.ensures.same
+    IfOk-weaker c.new.result _ _
+    (λ set is. AreEntered-lists c.args.funcs.now c.args.refs.now c.args.entry _ two three four set first
+    c.in_ok-push_targets.ensures roles cells
+    (subst (λ (xs : List ℕ). (a : ℕ) → IsMember set a ↔ Contains xs a) c.deref-3.ensures.value is))
+    c.new.ensures
