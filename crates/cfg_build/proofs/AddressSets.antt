@@ -1,6 +1,7 @@
 -- Sets of addresses as marks and a list.
 use Rattle.std.proofs.Common.{◌≡◌, ◌∙◌, ◌≢◌, ◌+◌, ◌-◌, ◌<◌, ◌≤◌, ℕ, ◌⊎◌, inl, inr, ⊎_elim, Bool, true, false, List, [], ◌∷◌, ◌++◌}
-use Rattle.std.proofs.Common.{refl, sym, subst, ap, arith, length, get_or, set, length-set, get_or-set_other, get_or-set_same, replicate, take}
+use Rattle.std.proofs.Common.{refl, sym, subst, ap, arith, length, get_or, set, length-set, get_or-set_other, get_or-set_same}
+use Rattle.std.proofs.Common.{replicate, take}
 use Rattle.std.specs.Prelude.{◌↔◌, Contains, IsTrue}
 use Rattle.std.proofs.lemmas.Bool.{cases_eq, cases_lt}
 use Rattle.std.proofs.lemmas.List.{get_or-replicate, get_or_past, length-replicate, take_more}
