@@ -1,8 +1,8 @@
 -- The bytes of a file that a segment loads from an address on.
 use Rattle.std.proofs.Common.{◌≡◌, ◌∙◌, sym, ap, ℕ, ◌+◌, ◌-◌, ◌*◌, ◌<◌, ◌≤◌, if◌then◌else◌, IsTrue, List, take, drop, length}
-use Rattle.std.proofs.Common.{slice_index, Option, Some, arith}
+use Rattle.std.proofs.Common.{slice_index, subst, ⊎_elim, Option, Some, arith}
 use Rattle.std.specs.Option.{option_map, unwrap_or}
-use Rattle.std.proofs.lemmas.Bool.{lt-ltb}
+use Rattle.std.proofs.lemmas.Bool.{cases_lt, lt-ltb}
 use Rattle.std.proofs.lemmas.List.{get_or-take, get_or-drop, length-take, length-drop}
 use Rattle.elf_code.specs.Parts.{halfword_at}
 use Rattle.elf_image.specs.declared.elf.Elf.{Elf}
@@ -65,3 +65,15 @@ half-loaded elf a i b bytes are at within =
     both_loaded (byte_at elf b) (byte_at elf (b + 1)) (slice_index bytes i) (slice_index bytes (i + 1))
     (ap (λ (k : ℕ). byte_at elf k) at ∙ are i (omega arith))
     (ap (λ (k : ℕ). byte_at elf k) next ∙ are (i + 1) within)
+
+-- Without the first of these bytes.
+pub from-drop : (elf : Elf) (a n m : ℕ) (bytes rest : List ℕ) → AreBytesFrom elf a bytes → m ≤ n →
+    (m < n → length bytes ≤ m) → rest ≡ drop m bytes → AreBytesFrom elf (a + n) rest
+from-drop elf a n m bytes rest are low short is i within =
+    let inside : i < length (drop m bytes) = subst (λ (xs : List ℕ). i < length xs) is within in
+    let long = length-drop m bytes in
+    let same : m ≡ n = ⊎_elim (λ (less : m < n). absurd (let few = short less in omega arith)) (λ (most : n ≤ m). omega arith)
+    (cases_lt m n) in
+    let at : a + n + i ≡ a + (m + i) = omega arith in
+    ap (λ (k : ℕ). byte_at elf k) at ∙ are (m + i) (omega arith)
+    ∙ ap Some (sym (get_or-drop m bytes i 0) ∙ ap (λ (xs : List ℕ). slice_index xs i) (sym is))

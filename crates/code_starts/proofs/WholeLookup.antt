@@ -1,7 +1,7 @@
 -- Whole parts, and labels in one of them.
 use Rattle.std.proofs.Common.{◌≡◌, ◌∙◌, sym, subst, ap, ℕ, ◌+◌, ◌-◌, ◌<◌, ◌≤◌, ℤ, pos, ◌≤ℤ◌, ◌<ℤ◌, ◌⊎◌, ⊎_elim, ◌↔◌, List, length}
-use Rattle.std.proofs.Common.{slice_index_or, arith}
-use Rattle.std.specs.List.{Contains, Any}
+use Rattle.std.proofs.Common.{slice_index_or, arith, []}
+use Rattle.std.specs.List.{AllPairs, Contains, Any}
 use Rattle.std.proofs.lemmas.Bool.{cases_lt}
 use Rattle.std.proofs.lemmas.Int.{ints}
 use Rattle.std.proofs.lemmas.List.{get_or_default}
@@ -12,7 +12,7 @@ use Rattle.elf_code.specs.FileCode.{AreStarts}
 use Rattle.elf_code.specs.Parts.{IsInTabled, IsCodePart, IsPart, StartsIn, IsWholePart}
 use Rattle.elf_image.specs.internal.Extents.{IsInOneExtent}
 use Rattle.code_starts.specs.declared.parts.Part.{Part}
-use Rattle.code_starts.specs.Parts.{ArePartsApart}
+use Rattle.code_starts.specs.Parts.{ArePartsApart, Precedes}
 use Rattle.code_starts.specs.WholeParts.{AreWholeParts, HoldsBoth}
 use Rattle.code_starts.proofs.StartLists.{starts_inside}
 
@@ -168,3 +168,12 @@ none_holds_both wholes p low to from lower above (k, within, there) holds =
     let beyond = above k p within in
     let same = ap (λ (q : Part). q.start) there in
     omega (arith, ints)
+
+-- Without ranges with exception tables there is no whole part.
+pub whole-nowhere : (elf : Elf) (tabled : List (ℕ × ℕ)) (wholes : List Part) → length tabled ≡ 0 → wholes ≡ [] →
+    AreWholeParts elf tabled wholes
+whole-nowhere elf tabled wholes none empty = record {
+  only = λ p listed. absurd (let (k, within, there) = subst (λ (xs : List Part). Contains xs p) empty listed in omega arith);
+  each = λ p whole. absurd (let (k, r, within, there, inside) = whole.tabled_there in omega arith);
+  ordered = subst (AllPairs Precedes) (sym empty) (λ i j d less within. absurd (omega arith));
+}

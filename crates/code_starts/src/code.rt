@@ -4,6 +4,7 @@ ghost use Rattle.rv_code.specs.declared.inst.Inst.{Inst};
 ghost use Rattle.elf_code.specs.FileCode.{AreStarts};
 ghost use Rattle.elf_code.specs.Parts.{halfword_at};
 ghost use Rattle.elf_code.specs.Roles.{IsFullAt};
+ghost use Rattle.code_starts.specs.LoadedMemory.{AreBytesFrom};
 ghost use Rattle.code_starts.specs.Parts.{AreCodeParts, IsInstBefore};
 
 use crate::loaded::bytes_from;
@@ -42,13 +43,13 @@ pub(crate) fn halfword(low: u8, high: u8) -> u16
     low as u16 + 256 * high as u16
 }
 
-// The halfwords at an address and after it. If one segment loads both, this takes one search.
-fn halfwords_at(elf: &Elf, address: u64) -> (u16, u16)
-    requires { address + 3 < 2 ^ 64 }
+// The halfwords at an address and after it, from the bytes from that address on, if these have both.
+fn halfwords_at(elf: &Elf, bytes: &[u8], address: u64) -> (u16, u16)
+    requires low { address + 3 < 2 ^ 64 }
+    requires bytes { AreBytesFrom elf.now address bytes.now }
     ensures first { result.0 ≡ halfword_at elf.now address }
     ensures second { result.1 ≡ halfword_at elf.now (address + 2) }
 {
-    let bytes = bytes_from(elf, address);
     if bytes.len() < 4 {
         return (halfword_at(elf, address), halfword_at(elf, address + 2));
     }
@@ -62,13 +63,24 @@ pub fn inst_before(elf: &Elf, end: u64, address: u64) -> Option<(Inst, u8)>
     ensures only { (inst : Inst) (bytes : ℕ) → IsInstBefore elf.now end address inst bytes →
         result ≡ Some (inst, bytes) }
 {
+    inst_among(elf, bytes_from(elf, address), end, address)
+}
+
+/// The result of `inst_before`, by loaded `bytes` from that address on. If they are too few, memory is searched.
+pub fn inst_among(elf: &Elf, bytes: &[u8], end: u64, address: u64) -> Option<(Inst, u8)>
+    requires inside { address < end }
+    requires bytes { AreBytesFrom elf.now address bytes.now }
+    ensures there { IfSome result (λ r. IsInstBefore elf.now end address r.0 r.1) }
+    ensures only { (inst : Inst) (bytes : ℕ) → IsInstBefore elf.now end address inst bytes →
+        result ≡ Some (inst, bytes) }
+{
     if end - address < 2 {
         return None;
     }
     if end - address < 4 {
         return decode(halfword_at(elf, address), None);
     }
-    let (half, next) = halfwords_at(elf, address);
+    let (half, next) = halfwords_at(elf, bytes, address);
     decode(half, Some(next))
 }
 

@@ -1,6 +1,7 @@
 // Bytes and numbers in the memory that a file describes.
-ghost use Rattle.std.specs.Prelude.{◌≡◌, ◌<◌, ◌≤◌, ◌^◌, OnSome, IfSome, length};
+ghost use Rattle.std.specs.Prelude.{◌≡◌, ◌<◌, ◌≤◌, ◌+◌, ◌^◌, ℕ, OnSome, IfSome, length};
 ghost use Rattle.byteorder.specs.Endian.{little_number};
+ghost use Rattle.elf_image.specs.declared.elf.Elf.{Elf};
 ghost use Rattle.elf_image.specs.memory.LoadedBytes.{byte_at};
 ghost use Rattle.elf_code.specs.LoadedNumbers.{loaded_number};
 ghost use Rattle.rv_code.specs.layout.FunctionLists.{address_end};
@@ -26,6 +27,14 @@ pub fn bytes_from<'a>(elf: &Elf<'a>, address: u64) -> &'a [u8]
     let start = segment.offset + place;
     let end = segment.offset + loaded;
     &elf.file[start as usize..end as usize]
+}
+
+/// The bytes of memory that follow the first `count` of `bytes`; none if there are fewer.
+pub fn bytes_after(bytes: &[u8], count: usize) -> &[u8]
+    ensures { (elf : Elf) (a : ℕ) → AreBytesFrom elf a bytes.now → AreBytesFrom elf (a + count) result.now }
+{
+    let (_, after) = bytes.split_at(count.min(bytes.len()));
+    after
 }
 
 /// The byte at an address, if it is loaded. Loaded addresses are below `ADDRESS_END`, so the next one also fits 64

@@ -31,8 +31,11 @@ pub fn whole_parts(
     requires parts { AreCodeParts elf.now parts.now }
     ensures { IfOk result (λ wholes. AreWholeParts elf.now tabled.now wholes.items) }
 {
-    let ranges = tabled_ranges(alloc, tabled)?;
     let mut wholes = Vec::new(alloc);
+    if tabled.is_empty() {
+        return Ok(wholes);
+    }
+    let ranges = tabled_ranges(alloc, tabled)?;
     for part in parts {
         if !is_whole(elf, starts, part, &ranges) {
             continue;

@@ -4,11 +4,13 @@ ghost use Rattle.std.specs.Prelude.{IfNone, IsTrue, length, slice_index_or};
 ghost use Rattle.rv_code.specs.declared.placed.Role.{Role};
 ghost use Rattle.elf_code.specs.FileCode.{AreRoles};
 ghost use Rattle.elf_code.specs.Parts.{IsCodePart};
+ghost use Rattle.code_starts.specs.LoadedMemory.{AreBytesFrom};
 ghost use Rattle.code_starts.specs.Parts.{ArePartsApart, Precedes};
 ghost use Rattle.rv_code.specs.isa.AddressParts.{IsAuipc};
 ghost use Rattle.func_find.specs.InstLists.{AreFunctionsOf, AreInstsOf, IsFaultBefore, IsFirstRefusal, IsPlacedAt};
 
-use crate::valid::valid_before;
+use crate::valid::valid_among;
+use code_starts::loaded::{bytes_after, bytes_from};
 use code_starts::parts::{Part, part_at};
 use elf_image::Elf;
 use rb_bytes::fault::{Fault, FaultKind, NoMemory, Refusal};
@@ -81,32 +83,37 @@ fn insts_of(
     let mut insts = Vec::with_capacity(alloc, most)?;
     let mut near = 0;
     let mut address = part.start;
+    let mut bytes = bytes_from(elf, address);
     while address < part.end {
-        let placed = match placed_at(elf, part.end, address, roles, &mut near) {
+        let placed = match placed_at(elf, bytes, part.end, address, roles, &mut near) {
             Ok(placed) => placed,
             Err(fault) => return Err(Refusal::Fault(fault)),
         };
         insts.push(placed)?;
         address += placed.len as u64;
+        bytes = bytes_after(bytes, placed.len as usize);
     }
     insts.shrink_to_fit();
     Ok(insts)
 }
 
-// The instruction at an address with its role, or its fault if it isn't valid. `near` is as in `role_at`.
+// The instruction at an address with its role, or its fault if it isn't valid. `bytes` are of memory from that address
+// on, and `near` is as in `role_at`.
 fn placed_at(
     elf: &Elf,
+    bytes: &[u8],
     end: u64,
     address: u64,
     roles: &[(u64, Role)],
     near: &mut usize,
 ) -> Result<Placed, Fault>
     requires inside { address < end }
+    requires bytes { AreBytesFrom elf.now address bytes.now }
     requires roles { AreRoles elf.now roles.now }
     ensures placed { IfOk result (IsPlacedAt elf.now end address) }
     ensures fault { IfErr result (IsFaultBefore elf.now end address) }
 {
-    match valid_before(elf, end, address) {
+    match valid_among(elf, bytes, end, address) {
         Some(found) => match role_at(roles, near, address) {
             Some(role) => Ok(Placed {
                 addr: address,

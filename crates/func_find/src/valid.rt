@@ -1,9 +1,11 @@
 // Valid instructions, and nops.
 ghost use Rattle.std.specs.Prelude.{◌≡◌, ◌↔◌, ◌<◌, ℕ, IsTrue, IfSome, Some};
 ghost use Rattle.rv_code.specs.declared.inst.Inst.{Inst};
+ghost use Rattle.code_starts.specs.LoadedMemory.{AreBytesFrom};
 ghost use Rattle.func_find.specs.ValidInsts.{IsValidBefore, IsNopBefore};
 
-use code_starts::code::{halfword_at, inst_before};
+use code_starts::code::{halfword_at, inst_among};
+use code_starts::loaded::bytes_from;
 use elf_image::Elf;
 use rv_code::Inst;
 
@@ -15,14 +17,25 @@ pub fn valid_before(elf: &Elf, end: u64, address: u64) -> Option<(Inst, u8)>
     ensures only { (inst : Inst) (bytes : ℕ) → IsValidBefore elf.now end address inst bytes →
         result ≡ Some (inst, bytes) }
 {
-    let (inst, bytes) = inst_before(elf, end, address)?;
+    valid_among(elf, bytes_from(elf, address), end, address)
+}
+
+/// The result of `valid_before`, by loaded `bytes` from that address on.
+pub fn valid_among(elf: &Elf, bytes: &[u8], end: u64, address: u64) -> Option<(Inst, u8)>
+    requires inside { address < end }
+    requires bytes { AreBytesFrom elf.now address bytes.now }
+    ensures there { IfSome result (λ r. IsValidBefore elf.now end address r.0 r.1) }
+    ensures only { (inst : Inst) (bytes : ℕ) → IsValidBefore elf.now end address inst bytes →
+        result ≡ Some (inst, bytes) }
+{
+    let (inst, size) = inst_among(elf, bytes, end, address)?;
     if address % 2 != 0 {
         return None;
     }
-    if bytes == 2 && elf.flags == 0 {
+    if size == 2 && elf.flags == 0 {
         return None;
     }
-    Some((inst, bytes))
+    Some((inst, size))
 }
 
 /// Whether there is a nop at an address that ends at or before `end`.

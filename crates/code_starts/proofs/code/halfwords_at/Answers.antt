@@ -5,11 +5,11 @@ use Rattle.code_starts.proofs.code.halfwords_at.Goals as goal
 pub returns-clause-first : goal.returns-clause-first
 returns-clause-first c =
     c.halfword.ensures
-    ∙ half-loaded c.args.elf.now c.args.address 0 c.args.address c.bytes_from-bytes.result.now c.bytes_from-bytes.ensures
+    ∙ half-loaded c.args.elf.now c.args.address 0 c.args.address c.args.bytes.now c.requires.bytes
     (omega arith) (omega arith)
 
 pub returns-clause-second : goal.returns-clause-second
 returns-clause-second c =
     c.halfword-2.ensures
-    ∙ half-loaded c.args.elf.now c.args.address 2 (c.args.address + 2) c.bytes_from-bytes.result.now
-    c.bytes_from-bytes.ensures (omega arith) (omega arith)
+    ∙ half-loaded c.args.elf.now c.args.address 2 (c.args.address + 2) c.args.bytes.now
+    c.requires.bytes (omega arith) (omega arith)

@@ -1,8 +1,9 @@
-use Rattle.std.proofs.Common.{refl, arith}
+use Rattle.std.proofs.Common.{refl, rules, arith}
 use Rattle.std.proofs.lemmas.List.Elements.{Contains-get_or}
 use Rattle.elf_code.specs.Parts.{IsWholePart}
 use Rattle.code_starts.specs.Parts.{Precedes}
 use Rattle.code_starts.proofs.Chosen.{chosen_keep, chosen_skip, chosen_all}
+use Rattle.code_starts.proofs.WholeLookup.{whole-nowhere}
 use Rattle.code_starts.proofs.whole.whole_parts.Goals as goal
 use Rattle.rb_bytes.proofs.Tests.{clash}
 
@@ -30,3 +31,8 @@ returns c =
     c.loop-part.part-index
     (omega arith)
     (λ p whole. c.requires.parts.each p whole.starts.part) c.loop-part.invariant
+
+pub returns-then-is_empty : goal.returns-then-is_empty
+returns-then-is_empty c =
+    whole-nowhere c.args.elf.now c.args.tabled.now c.new-wholes.result.items
+    (search rules) c.new-wholes.ensures.items

@@ -2,7 +2,7 @@ use Rattle.std.proofs.Common.{◌≢◌, sym, subst, ℕ, ◌+◌, Some, None, a
 use Rattle.rv_code.specs.isa.InstBytes.{Decodes}
 use Rattle.elf_code.specs.Parts.{halfword_at}
 use Rattle.code_starts.proofs.Decoded.{decoded, Decodes-two, Decodes-same}
-use Rattle.code_starts.proofs.code.inst_before.Goals as goal
+use Rattle.code_starts.proofs.code.inst_among.Goals as goal
 
 pub returns-then-end-address-lt4-clause-only : goal.returns-then-end-address-lt4-clause-only
 returns-then-end-address-lt4-clause-only c = λ inst bytes before.

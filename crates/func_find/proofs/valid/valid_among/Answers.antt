@@ -1,4 +1,4 @@
-use Rattle.func_find.proofs.valid.valid_before.Goals as goal
+use Rattle.func_find.proofs.valid.valid_among.Goals as goal
 
 pub returns-clause-only : goal.returns-clause-only
 returns-clause-only c = λ inst bytes valid. c.in_ok-inst.ensures.only inst bytes valid.before
