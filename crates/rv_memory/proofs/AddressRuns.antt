@@ -1,5 +1,5 @@
 -- Ranges of addresses that don't wrap.
-use Rattle.std.proofs.Common.{◌≡◌, ◌∙◌, ◌⊎◌, inl, inr, sym, ap, refl, ℕ, zero, suc, ◌+◌, ◌-◌, ◌*◌, ◌^◌, ◌<◌, ◌≤◌, Bool, true}
+use Rattle.std.proofs.Common.{◌≡◌, ◌∙◌, ◌⊎◌, inl, inr, ap, refl, ℕ, zero, suc, ◌+◌, ◌-◌, ◌*◌, ◌^◌, ◌<◌, ◌≤◌, Bool, true}
 use Rattle.std.proofs.Common.{false, IsTrue, List, [], ◌∷◌, length, Option, Some, None, arith}
 use Rattle.std.specs.Prelude.{◌&&◌, ◌||◌, ◌==◌, nat_le, nat_lt, if◌then◌else◌, unwrap_or, slice_index, max}
 use Rattle.std.proofs.Common.{◌++◌}
@@ -13,10 +13,11 @@ use Rattle.std.proofs.lemmas.Bool.{lt-ltb, false_from_ne_true, cases_lt, or_case
 use Rattle.rv_code.specs.machine.Machine.{plus, put, all_may}
 use Rattle.elf_image.specs.declared.segment.Segment.{Segment}
 use Rattle.elf_image.specs.declared.elf.Elf.{Elf}
-use Rattle.elf_image.specs.memory.Image.{is_load, end_of, loads_address, segment_of, byte_of, image_byte, has_flag, is_loaded_with}
+use Rattle.elf_image.specs.memory.Image.{end_of, loads_address, segment_of, byte_of, image_byte, has_flag, is_loaded_with}
 use Rattle.elf_image.proofs.LoadLemmas.{loads-parts, loads-from_parts, same_segment}
 use Rattle.rv_memory.specs.Pages.{is_within}
 use Rattle.rv_memory.specs.BlankPages.{misses}
+use Rattle.std.proofs.lemmas.Grind.{common_steps}
 
 pub all_may-run : (may : ℕ → Bool) (a n : ℕ) → a + n ≤ 2 ^ 64 →
     ((q : ℕ) → a ≤ q → q < a + n → may q ≡ true) → all_may may a n ≡ true
@@ -87,26 +88,7 @@ put_out memory a q (b ∷ c ∷ bytes) room out =
 pub put_pages : (old new : ℕ → Option ℕ) (unwritten : ℕ → ℕ) (a : ℕ) (bytes : List ℕ) → a + length bytes ≤ 2 ^ 64 →
     ((q : ℕ) → new q ≡ (if is_within a (length bytes) q then Some (slice_index bytes (q - a)) else old q)) → (q : ℕ) →
     unwrap_or (new q) (unwritten q) ≡ put (λ p. unwrap_or (old p) (unwritten p)) a bytes q
-put_pages old new unwritten a bytes room is q = by_start (nat_le a q) refl
-  where
-    by_end : a ≤ q → nat_le a q ≡ true → (t : Bool) → nat_lt q (a + length bytes) ≡ t →
-        unwrap_or (new q) (unwritten q) ≡ put (λ p. unwrap_or (old p) (unwritten p)) a bytes q
-    by_end from first true test =
-        let within : is_within a (length bytes) q ≡ true = rw (first, test) refl in
-        ap (λ r. unwrap_or r (unwritten q)) (is q ∙ ap (λ t. if t then Some (slice_index bytes (q - a)) else old q) within)
-        ∙ sym (put_in (λ p. unwrap_or (old p) (unwritten p)) a q bytes room from (ltb-true q (a + length bytes) test))
-    by_end from first false test =
-        let within : is_within a (length bytes) q ≡ false = rw (first, test) refl in
-        ap (λ r. unwrap_or r (unwritten q)) (is q ∙ ap (λ t. if t then Some (slice_index bytes (q - a)) else old q) within)
-        ∙ sym (put_out (λ p. unwrap_or (old p) (unwritten p)) a q bytes room (inr (ltb-false q (a + length bytes) test)))
-
-    by_start : (t : Bool) → nat_le a q ≡ t →
-        unwrap_or (new q) (unwritten q) ≡ put (λ p. unwrap_or (old p) (unwritten p)) a bytes q
-    by_start true test = by_end (leb-true a q test) test (nat_lt q (a + length bytes)) refl
-    by_start false test =
-        let within : is_within a (length bytes) q ≡ false = rw test refl in
-        ap (λ r. unwrap_or r (unwritten q)) (is q ∙ ap (λ t. if t then Some (slice_index bytes (q - a)) else old q) within)
-        ∙ sym (put_out (λ p. unwrap_or (old p) (unwritten p)) a q bytes room (inl (leb-false a q test)))
+put_pages old new unwritten a bytes room is q = grind (arith, common_steps, put_in, ltb-true, put_out, ltb-false, leb-true, leb-false)
 
 pub loaded_run : (elf : Elf) (flag a n : ℕ) (p : Segment) → segment_of elf.segments.items a ≡ Some p →
     IsTrue (loads_address a p) →
@@ -121,14 +103,7 @@ loaded_run elf flag a n p found loads flagged from to room =
 
 missed : (from q : ℕ) (p : Segment) → misses from p ≡ true → IsTrue (loads_address q p) → q < from + 4096 →
     p.vaddr + p.filesz ≤ from
-missed from q p clear loads high =
-    let parts = loads-parts q p loads in
-    let load : is_load p ≡ true = parts.0 in
-    let low = parts.1 in
-    elim (or_cases (nat_le (p.vaddr + p.filesz) from) (nat_le (from + 4096) p.vaddr) (rw load at clear)) [
-      | inl before ↦ leb-true (p.vaddr + p.filesz) from before
-      | inr after ↦ let far = leb-true (from + 4096) p.vaddr after in absurd (omega arith)
-    ]
+missed from q p clear loads high = grind (arith, common_steps, loads-parts, or_cases, leb-true)
 
 -- A page with no byte of the file.
 pub blank_byte : (file : List ℕ) (segments : List Segment) (from q : ℕ) → list_all (misses from) segments ≡ true → from ≤ q →
@@ -153,73 +128,17 @@ pub page_taken : {T E : Type 0} (r : Result T E) (old new : ℕ → Option ℕ) 
     OnErr r ((q : ℕ) → new q ≡ old q) → ((k : ℕ) → k < 4096 → slice_index page k ≡ unwritten (n * 4096 + k)) →
     ((q : ℕ) → q / 4096 ≡ n → old q ≡ None) → (q : ℕ) → unwrap_or (new q) (unwritten q) ≡ unwrap_or (old q) (unwritten q)
 page_taken (Err e) old new unwritten n page added kept bytes absent q = ap (λ b. unwrap_or b (unwritten q)) (kept q)
-page_taken (Ok x) old new unwritten n page added kept bytes absent q = cases (q / 4096 == n) refl
-  where
-    cases : (t : Bool) → (q / 4096 == n) ≡ t → unwrap_or (new q) (unwritten q) ≡ unwrap_or (old q) (unwritten q)
-    cases false test =
-        ap (λ b. unwrap_or b (unwritten q))
-        (added refl q ∙ ap (λ t. if t then Some (slice_index page (q % 4096)) else old q) test)
-    cases true test =
-        let same : q / 4096 ≡ n = eqb-true (q / 4096) n test in
-        let whole : n * 4096 + q % 4096 ≡ q = omega arith in
-        ap (λ b. unwrap_or b (unwritten q))
-        (added refl q ∙ ap (λ t. if t then Some (slice_index page (q % 4096)) else old q) test)
-        ∙ bytes (q % 4096) (omega arith)
-        ∙ ap unwritten whole
-        ∙ sym (ap (λ b. unwrap_or b (unwritten q)) (absent q same))
+page_taken (Ok x) old new unwritten n page added kept bytes absent q = grind (arith, common_steps, eqb-true)
 
 -- One more byte of a list whose bytes are the values of a function.
 pub pushed_more : (f : ℕ → ℕ) (xs : List ℕ) (b k : ℕ) → length xs ≡ k → b ≡ f k →
     ((j : ℕ) → j < k → slice_index xs j ≡ f j) → (j : ℕ) → j < k + 1 → slice_index (xs ++ b ∷ []) j ≡ f j
-pushed_more f xs b k size is each j within = elim (cases_lt j k) [
-  | inl less ↦ get_or_append_left xs (b ∷ []) 0 j (omega arith) ∙ each j less
-  | inr more ↦
-      let same : j ≡ k = omega arith in
-      let first : j - k ≡ 0 = omega arith in
-      get_or-append_right xs (b ∷ []) k j 0 size (omega arith)
-      ∙ ap (λ (i : ℕ). slice_index (b ∷ []) i) first ∙ is ∙ ap f (sym same)
-]
+pushed_more f xs b k size is each j within = grind (arith, common_steps, cases_lt, get_or_append_left, get_or-append_right)
 
 -- The bytes of pages and of unwritten memory after the break was raised or lowered.
 pub break_moved : (p : Option ℕ) (stack : Bool) (image start now top to q : ℕ) → start ≤ now → now ≤ top →
     unwrap_or (if nat_le now q && nat_lt q to then option_map (λ b. 0) p else p)
     (if stack || (nat_le start q && nat_lt q (max top to)) then 0 else image)
     ≡ (if nat_le now q && nat_lt q to then 0 else unwrap_or p (if stack || (nat_le start q && nat_lt q top) then 0 else image))
-break_moved p stack image start now top to q low high = cases (nat_le now q && nat_lt q to) refl
-  where
-    zero : (s t : Bool) → t ≡ true → (if s || t then 0 else image) ≡ 0
-    zero true t is = refl
-    zero false t is = rw is refl
-
-    given : (r : Option ℕ) (t : Bool) → t ≡ true → unwrap_or (option_map (λ b. 0) r) (if stack || t then 0 else image) ≡ 0
-    given None t is = zero stack t is
-    given (Some b) t is = refl
-
-    same : (nat_le now q && nat_lt q to) ≡ false → (nat_le start q && nat_lt q (max top to)) ≡ (nat_le start q && nat_lt q top)
-    same apart = elim (cases_lt q top) [
-      | inl less ↦ rw (lt-ltb q top less, lt-ltb q (max top to) (omega arith)) refl
-      | inr more ↦
-          let past : to ≤ q =
-          elim (cases_lt q to) [
-            | inl under ↦ absurd
-                (let both : (nat_le now q && nat_lt q to) ≡ true = rw (le-leb now q (omega arith), lt-ltb q to under) refl in
-                cc)
-            | inr over ↦ over
-          ] in
-          let one : nat_lt q (max top to) ≡ false =
-          false_from_ne_true (nat_lt q (max top to)) (λ e. let under = ltb-true q (max top to) e in omega arith) in
-          let two : nat_lt q top ≡ false = false_from_ne_true (nat_lt q top) (λ e. let under = ltb-true q top e in omega arith) in
-          rw (one, two) refl
-    ]
-
-    cases : (t : Bool) → (nat_le now q && nat_lt q to) ≡ t →
-        unwrap_or (if t then option_map (λ b. 0) p else p)
-        (if stack || (nat_le start q && nat_lt q (max top to)) then 0 else image)
-        ≡ (if t then 0 else unwrap_or p (if stack || (nat_le start q && nat_lt q top) then 0 else image))
-    cases true test =
-        let parts = and_parts (nat_le now q) (nat_lt q to) test in
-        let from = leb-true now q parts.0 in
-        let under = ltb-true q to parts.1 in
-        given p (nat_le start q && nat_lt q (max top to))
-        (rw (le-leb start q (omega arith), lt-ltb q (max top to) (omega arith)) refl)
-    cases false test = ap (λ t. unwrap_or p (if stack || t then 0 else image)) (same test)
+break_moved p stack image start now top to q low high =
+    grind (arith, common_steps, cases_lt, lt-ltb, le-leb, false_from_ne_true, ltb-true, and_parts, leb-true)

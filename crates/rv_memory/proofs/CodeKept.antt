@@ -1,7 +1,7 @@
 -- Code that a program can't write keeps its bytes.
 use Rattle.std.proofs.Common.{◌≡◌, ◌∙◌, sym, ap, refl, ℕ, zero, suc, ◌+◌, ◌-◌, ◌*◌, ◌/◌, ◌%◌, ◌^◌, ◌<◌, ◌≤◌, Bool, true, false}
 use Rattle.std.proofs.Common.{List, length, Option, Some, None, arith}
-use Rattle.std.specs.Prelude.{◌&&◌, ◌||◌, ◌==◌, nat_le, nat_lt, if◌then◌else◌, unwrap_or, slice_index, Result, Ok, Err, IsOk, OnErr}
+use Rattle.std.specs.Prelude.{◌&&◌, ◌==◌, nat_le, nat_lt, if◌then◌else◌, unwrap_or, slice_index, Result, Ok, Err, IsOk, OnErr}
 use Rattle.std.specs.Option.{option_map}
 use Rattle.std.proofs.lemmas.Bool.{and_parts, and_from, leb-true, ltb-true, le-leb, lt-ltb, false_from_ne_true, eqb-true, or_parts}
 use Rattle.rv_code.specs.machine.Machine.{plus, all_may}
@@ -21,6 +21,7 @@ use Rattle.rv_code.proofs.machine.RelatedMemory.{all_may_implied}
 use Rattle.rv_memory.proofs.StackMemory.{in_stack-both}
 use Rattle.rb_bytes.proofs.Tests.{clash}
 use Rattle.rv_memory.specs.Pages.{page_byte, is_within, byte_put, cleared_between}
+use Rattle.std.proofs.lemmas.Grind.{common_steps}
 
 pub all_may_at : (may : ℕ → Bool) (a n k : ℕ) → all_may may a n ≡ true → k < n → a + k < 2 ^ 64 → may (a + k) ≡ true
 unfolding all_may
@@ -37,8 +38,7 @@ all_may_at may a (suc n) (suc k) all within room =
 pub all_may_each : (may : ℕ → Bool) (a n k : ℕ) → a < 2 ^ 64 → all_may may a n ≡ true → k < n → may (plus a k) ≡ true
 unfolding all_may
 all_may_each may a zero k low all within = absurd (omega arith)
-all_may_each may a (suc n) zero low all within =
-    let here : plus a 0 ≡ a = omega arith in ap may here ∙ (and_parts (may a) (all_may may (plus a 1) n) all).0
+all_may_each may a (suc n) zero low all within = grind (arith, common_steps, and_parts)
 all_may_each may a (suc n) (suc k) low all within =
     let there : plus a (suc k) ≡ plus (plus a 1) k = omega arith in
     ap may there
@@ -55,38 +55,21 @@ all_may_front may a (suc m) (suc n) few all =
 
 not_gained : (from to bound q : ℕ) → to ≤ bound → (nat_le from q && nat_lt q bound) ≡ false →
     (nat_le from q && nat_lt q to) ≡ false
-not_gained from to bound q below apart =
-    false_from_ne_true (nat_le from q && nat_lt q to) (λ e.
-    let parts = and_parts (nat_le from q) (nat_lt q to) e in
-    let high = ltb-true q to parts.1 in
-    clash (nat_le from q && nat_lt q bound)
-    (and_from (nat_le from q) (nat_lt q bound) parts.0 (lt-ltb q bound (omega arith))) apart)
+not_gained from to bound q below apart = grind (arith, common_steps, false_from_ne_true, and_parts, ltb-true, clash, and_from, lt-ltb)
 
 fixed_parts : (m : Memory) (q : ℕ) → is_in_code m.code q ≡ true → (is_loaded_with PF_W m.elf.now.segments.items q ≡ false)
     × (in_stack q ≡ false) × ((nat_le m.break_start q && nat_lt q m.break_bound) ≡ false)
-fixed_parts m q here =
-    let outer =
-    or_parts (is_loaded_with PF_W m.elf.now.segments.items q || in_stack q) (nat_le m.break_start q && nat_lt q m.break_bound)
-    (m.code_fixed q here) in
-    let inner = or_parts (is_loaded_with PF_W m.elf.now.segments.items q) (in_stack q) outer.0 in
-    (inner.0, inner.1, outer.1)
+fixed_parts m q here = grind (arith, common_steps, or_parts)
 
 pub unwritable : (m : Memory) (q : ℕ) → is_in_code m.code q ≡ true → writes m q ≡ false
-unwritable m q here =
-    let parts = fixed_parts m q here in
-    let below = m.break_to in
-    let within = m.break_within in
-    rw (parts.0, parts.1, not_gained m.break_start m.program_break m.break_bound q (omega arith) parts.2) refl
+unwritable m q here = grind (arith, common_steps, fixed_parts, not_gained)
 
 pub not_zero_filled : (m : Memory) (q : ℕ) → is_in_code m.code q ≡ true → is_zero_filled m q ≡ false
-not_zero_filled m q here =
-    let parts = fixed_parts m q here in
-    rw (parts.1, not_gained m.break_start m.break_top m.break_bound q m.break_within parts.2) refl
+not_zero_filled m q here = grind (arith, common_steps, fixed_parts, not_gained)
 
 pub unwritten_code : (m : Memory) (q : ℕ) → is_in_code m.code q ≡ true →
     unwritten_byte m q ≡ unwrap_or (image_byte m.elf.now.file.now m.elf.now.segments.items q) 0
-unwritten_code m q here =
-    ap (λ t. if t then 0 else unwrap_or (image_byte m.elf.now.file.now m.elf.now.segments.items q) 0) (not_zero_filled m q here)
+unwritten_code m q here = grind (arith, common_steps, not_zero_filled)
 
 -- Code is read as it was loaded.
 pub code_is : (m : Memory) (q : ℕ) → is_in_code m.code q ≡ true →
@@ -185,11 +168,7 @@ code_half_is m a low high room =
     ∙ sym (get_or-drop at file (0 + k) 0))
 
 pub code_runs_at : (m : Memory) (a n : ℕ) → m.code.from ≤ a → a + n ≤ m.code.to → a + n ≤ 2 ^ 64 → all_may (executes m) a n ≡ true
-code_runs_at m a n low high room =
-    all_may-run (executes m) a n (omega arith)
-    (λ q from to. m.code_runs q
-    (and_from (nat_le m.code.from q) (nat_lt q m.code.to) (le-leb m.code.from q (omega arith))
-    (lt-ltb q m.code.to (omega arith))))
+code_runs_at m a n low high room = grind (arith, common_steps, all_may-run, and_from, le-leb, lt-ltb)
 
 pub code_half_next : (m : Memory) (a : ℕ) → m.code.from ≤ a → a + 4 ≤ m.code.to → a + 4 ≤ 2 ^ 64 →
     number_at m.elf.now.file.now (m.code.offset + (a - m.code.from) + 2) 2 ≡ little (memory_bytes (memory_of m) (plus a 2) 2)
@@ -201,9 +180,7 @@ code_half_next m a low high room =
 
 pub code_runs_next : (m : Memory) (a : ℕ) → m.code.from ≤ a → a + 4 ≤ m.code.to → a + 4 ≤ 2 ^ 64 →
     all_may (executes m) (plus a 2) 2 ≡ true
-code_runs_next m a low high room =
-    let next : plus a 2 ≡ a + 2 = omega arith in
-    ap (λ (b : ℕ). all_may (executes m) b 2) next ∙ code_runs_at m (a + 2) 2 (omega arith) (omega arith) (omega arith)
+code_runs_next m a low high room = grind (arith, common_steps, code_runs_at)
 
 -- A write that may or may not be made.
 pub code_put_if : (m : Memory) (done : Bool) (new : ℕ → Option ℕ) (a n : ℕ) (bytes : List ℕ) → length bytes ≡ n → a + n ≤ 2 ^ 64 →
@@ -217,11 +194,7 @@ code_put_if m false new a n bytes size room all put kept =
 
 pub writable-keeps : (old new : Memory) → Keeps old new → (a n : ℕ) → all_may (writes old) a n ≡ true →
     all_may (writes new) a n ≡ true
-writable-keeps old new keeps a n all =
-    all_may_implied (writes old) (writes new) a n (λ q is. writes-keeps old new keeps q ∙ is) all
+writable-keeps old new keeps a n all = grind (arith, common_steps, all_may_implied, writes-keeps)
 
 pub stack_writable : (m : Memory) (a n : ℕ) → stack_end - stack_size ≤ a → a + n ≤ stack_end → all_may (writes m) a n ≡ true
-stack_writable m a n low high =
-    all_may-run (writes m) a n (omega arith)
-    (λ q from to. or_second (is_loaded_with PF_W m.elf.now.segments.items q) (in_stack q) _
-    (in_stack-both q (le-leb (stack_end - stack_size) q (omega arith)) (lt-ltb q stack_end (omega arith))))
+stack_writable m a n low high = grind (arith, common_steps, all_may-run, or_second, in_stack-both, le-leb, lt-ltb)

@@ -1,11 +1,12 @@
 -- Consecutive bytes of memory, one by one.
 use Rattle.std.proofs.Common.{◌≡◌, ℕ, zero, suc, ◌+◌, ◌-◌, ◌*◌, ◌/◌, ◌<◌, ◌≤◌, ◌^◌, Bool, true, List, [], ◌∷◌, ◌++◌, length, take, drop}
-use Rattle.std.proofs.Common.{get_or, refl, sym, ap, ◌∙◌, arith, append_assoc, append-nil, div-one, drop_of_length-le, drop-cons}
+use Rattle.std.proofs.Common.{get_or, refl, ap, arith, append_assoc, append-nil, div-one, drop_of_length-le, drop-cons}
 use Rattle.std.specs.Prelude.{if◌then◌else◌, ◌==◌, ◌&&◌}
 use Rattle.std.proofs.Math.Nat.{pow-le-pow_right, pow-suc, div-div-eq-div-mul}
 use Rattle.rv_code.specs.machine.Machine.{plus, memory_bytes, put, little, all_may, low_bytes}
 use Rattle.std.specs.Int.{w64, to_le_bytes, bytes_low_first}
 use Rattle.rb_bytes.proofs.NumberBytes.{byte_at-power}
+use Rattle.std.proofs.lemmas.Grind.{common_steps}
 
 pub little_none : (memory : ℕ → ℕ) (a n : ℕ) → n ≡ 0 → little (memory_bytes memory a n) ≡ 0
 unfolding memory_bytes little
@@ -25,26 +26,18 @@ bytes_none memory a n e = rw e refl
 pub bytes_next : (memory : ℕ → ℕ) (a i n : ℕ) → i < n →
     memory_bytes memory (plus a i) (n - i) ≡ memory (plus a i) ∷ memory_bytes memory (plus a (i + 1)) (n - (i + 1))
 unfolding memory_bytes
-bytes_next memory a i n h =
-    let e : n - i ≡ suc (n - (i + 1)) = omega arith in
-    let next : plus (plus a i) 1 ≡ plus a (i + 1) = omega arith in
-    rw (e, next) refl
+bytes_next memory a i n h = grind (arith, common_steps)
 
 -- The bytes copied so far, with one more.
 pub bytes_more : (memory : ℕ → ℕ) (a i n : ℕ) (front whole : List ℕ) → i < n →
     front ++ memory_bytes memory (plus a i) (n - i) ≡ whole →
     (front ++ memory (plus a i) ∷ []) ++ memory_bytes memory (plus a (i + 1)) (n - (i + 1)) ≡ whole
-bytes_more memory a i n front whole h e =
-    append_assoc front (memory (plus a i) ∷ []) (memory_bytes memory (plus a (i + 1)) (n - (i + 1)))
-    ∙ ap (λ rest. front ++ rest) (sym (bytes_next memory a i n h)) ∙ e
+bytes_more memory a i n front whole h e = grind (arith, common_steps, append_assoc, bytes_next)
 
 -- No byte is left.
 pub bytes_all : (memory : ℕ → ℕ) (a i n : ℕ) (front whole : List ℕ) → n ≤ i →
     front ++ memory_bytes memory (plus a i) (n - i) ≡ whole → front ≡ whole
-bytes_all memory a i n front whole h e =
-    let none : n - i ≡ 0 = omega arith in
-    let empty : memory_bytes memory (plus a i) (n - i) ≡ [] = bytes_none memory (plus a i) (n - i) none in
-    grind (arith, append-nil, div-one, empty, e)
+bytes_all memory a i n front whole h e = grind (arith, common_steps, bytes_none, append-nil, div-one)
 
 -- Seven bytes fit 56 bits.
 pub byte_power : (n : ℕ) → n ≤ 7 → 256 ^ n ≤ 2 ^ 56
@@ -60,11 +53,7 @@ pub put_next : (memory : ℕ → ℕ) (a i q : ℕ) (bytes : List ℕ) → i < l
     put memory (plus a i) (drop i bytes) q
     ≡ (if q == plus a i then get_or bytes i 0 else put memory (plus a (i + 1)) (drop (i + 1) bytes) q)
 unfolding put
-put_next memory a i q bytes h =
-    let next : plus (plus a i) 1 ≡ plus a (i + 1) = omega arith in
-    let one : suc i ≡ i + 1 = omega arith in
-    let first : drop i bytes ≡ get_or bytes i 0 ∷ drop (i + 1) bytes = rw one at (drop-cons bytes i 0 h) in
-    rw (first, next) refl
+put_next memory a i q bytes h = grind (arith, common_steps, drop-cons)
 
 pub all_may_none : (may : ℕ → Bool) (a n : ℕ) → n ≡ 0 → all_may may a n ≡ true
 unfolding all_may
@@ -73,19 +62,14 @@ all_may_none may a n e = rw e refl
 pub all_may_next : (may : ℕ → Bool) (a i n : ℕ) → i < n → all_may may (plus a i) (n - i) ≡ may (plus a i)
     && all_may may (plus a (i + 1)) (n - (i + 1))
 unfolding all_may
-all_may_next may a i n h =
-    let e : n - i ≡ suc (n - (i + 1)) = omega arith in
-    let next : plus (plus a i) 1 ≡ plus a (i + 1) = omega arith in
-    rw (e, next) refl
+all_may_next may a i n h = grind (arith, common_steps)
 
 pub bytes_low_first-low_bytes : (i n k v : ℕ) → n ≤ k → take n (bytes_low_first i k v) ≡ low_bytes n (v / 256 ^ i)
 unfolding low_bytes
 bytes_low_first-low_bytes i zero k v h = refl
 bytes_low_first-low_bytes i (suc n) zero v h = absurd (omega arith)
 bytes_low_first-low_bytes i (suc n) (suc k) v h =
-    let next : v / 256 ^ i / 256 ≡ v / 256 ^ suc i =
-    div-div-eq-div-mul v (256 ^ i) 256 ∙ ap (λ (d : ℕ). v / d) (sym (pow-suc 256 i)) in
-    rw (byte_at-power i v, next, bytes_low_first-low_bytes (suc i) n k v (omega arith)) refl
+    grind (arith, common_steps, div-div-eq-div-mul, pow-suc, byte_at-power, bytes_low_first-low_bytes (suc i) n k v (omega arith))
 
 -- The low bytes of a number, among all eight.
 pub low_bytes_of : (n v : ℕ) → n ≤ 8 → take n (to_le_bytes w64 v) ≡ low_bytes n v

@@ -1,14 +1,14 @@
 -- A list of numbers with the index of each, and one more number.
 use Rattle.std.proofs.Common.{◌≡◌, ◌∙◌, sym, ap, ℕ, ◌<◌, Bool, true, false, refl}
-use Rattle.std.proofs.Common.{List, [], ◌∷◌, ◌++◌, length, get_or, Option, Some, None, arith, inl, inr, length-append}
+use Rattle.std.proofs.Common.{List, [], ◌∷◌, ◌++◌, length, get_or, Option, Some, None, arith, length-append}
 use Rattle.std.specs.Prelude.{◌==◌, if◌then◌else◌}
 use Rattle.std.proofs.lemmas.List.{get_or_append_left, get_or-append_right}
 use Rattle.std.proofs.lemmas.Bool.{eqb-true, eq-eqb, false_from_ne_true, cases_lt}
+use Rattle.std.proofs.lemmas.Grind.{common_steps}
 
 -- The number that is added, and the numbers before it.
 pub number_last : (numbers : List ℕ) (n : ℕ) → get_or (numbers ++ n ∷ []) (length numbers) 0 ≡ n
-number_last numbers n = get_or-append_right numbers (n ∷ []) (length numbers) (length numbers) 0 refl (omega arith)
-    ∙ ap (λ (k : ℕ). get_or (n ∷ []) k 0) {y = 0} (omega arith)
+number_last numbers n = grind (arith, common_steps, get_or-append_right)
 
 pub number_before : (numbers : List ℕ) (n i : ℕ) → i < length numbers → get_or (numbers ++ n ∷ []) i 0 ≡ get_or numbers i 0
 number_before numbers n i less = get_or_append_left numbers (n ∷ []) 0 i less
@@ -24,27 +24,11 @@ module _ (place next : ℕ → Option ℕ) (numbers : List ℕ) (n : ℕ)
   next-old q other = is q ∙ ap (λ t. if t then Some (length numbers) else place q) other
 
   pub indexed_more : (i : ℕ) → i < length (numbers ++ n ∷ []) → next (get_or (numbers ++ n ∷ []) i 0) ≡ Some i
-  indexed_more i within = elim (cases_lt i (length numbers)) [
-    | inl less ↦
-        let found : place (get_or numbers i 0) ≡ Some i = indexed i less in
-        let other : (get_or numbers i 0 == n) ≡ false =
-        false_from_ne_true (get_or numbers i 0 == n)
-        (λ e. absurd
-        (let none : place (get_or numbers i 0) ≡ None = ap place (eqb-true (get_or numbers i 0) n e) ∙ absent in
-        let both : Some i ≡ None = sym found ∙ none in cc)) in
-        ap next (number_before numbers n i less) ∙ next-old (get_or numbers i 0) other ∙ found
-    | inr more ↦
-        let same : i ≡ length numbers = omega (arith, within, length-append numbers (n ∷ [])) in
-        ap (λ k. next (get_or (numbers ++ n ∷ []) k 0)) same ∙ next-new _ (number_last numbers n) ∙ ap Some (sym same)
-  ]
+  indexed_more i within =
+      grind (arith, common_steps, cases_lt, false_from_ne_true, eqb-true, number_before, next-old, length-append, next-new, number_last)
 
   pub held_more : (q i : ℕ) → next q ≡ Some i → i < length (numbers ++ n ∷ [])
-  held_more q i found = cases (q == n) refl
-    where
-      cases : (t : Bool) → (q == n) ≡ t → i < length (numbers ++ n ∷ [])
-      cases true e = let same : Some (length numbers) ≡ Some i = sym (next-new q (eqb-true q n e)) ∙ found in
-          let here : length numbers ≡ i = cc in omega (arith, length-append numbers (n ∷ []))
-      cases false e = let there = held q i (sym (next-old q e) ∙ found) in omega (arith, length-append numbers (n ∷ []))
+  held_more q i found = grind (arith, common_steps, next-new, eqb-true, length-append, next-old)
 
   pub numbered_more : (q i : ℕ) → next q ≡ Some i → get_or (numbers ++ n ∷ []) i 0 ≡ q
   numbered_more q i found = cases (q == n) refl

@@ -37,10 +37,7 @@ page_byte-some p a i found = rw found refl
 
 pub in_pages : (p : Pages) (a i n : ℕ) → place_of p.index (a / 4096) ≡ Some i → a % 4096 + n ≤ 4096 →
     i * 4096 + a % 4096 + n ≤ length p.bytes.items
-in_pages p a i n found in_page =
-    let here : i < length p.numbers.items = p.held (a / 4096) i found in
-    let size : length p.bytes.items ≡ length p.numbers.items * 4096 = p.sized in
-    omega arith
+in_pages p a i n found in_page = grind (arith, common_steps)
 
 -- Bytes written in one page.
 pub page_written : (old : Pages) (bytes ys : List ℕ) (a i : ℕ) → place_of old.index (a / 4096) ≡ Some i →
@@ -87,35 +84,11 @@ byte_put-zeros p a n i found in_page q =
 
 pub byte_cleared-none : (p : Pages) (a n : ℕ) → place_of p.index (a / 4096) ≡ None → a % 4096 + n ≤ 4096 → (q : ℕ) →
     page_byte p q ≡ byte_cleared p a n q
-byte_cleared-none p a n none in_page q = cases (is_within a n q) refl
-  where
-    cases : (t : Bool) → is_within a n q ≡ t →
-        page_byte p q ≡ (if t then option_map (λ byte. 0) (page_byte p q) else page_byte p q)
-    cases false test = refl
-    cases true test =
-        let parts = and_parts (nat_le a q) (nat_lt q (a + n)) test in
-        let low : a ≤ q = leb-true a q parts.0 in
-        let high : q < a + n = ltb-true q (a + n) parts.1 in
-        let page : q / 4096 ≡ a / 4096 = omega arith in
-        let absent : page_byte p q ≡ None = page_byte-none p q (ap (place_of p.index) page ∙ none) in
-        absent ∙ sym (ap (option_map (λ byte. 0)) absent)
+byte_cleared-none p a n none in_page q = grind (arith, common_steps, and_parts, leb-true, ltb-true, page_byte-none)
 
 pub byte_put-one : (p : Pages) (a byte q : ℕ) → byte_put p a (byte ∷ []) q ≡ (if q == a then Some byte else page_byte p q)
-byte_put-one p a byte q = cases (q == a) refl
-  where
-    cases : (t : Bool) → (q == a) ≡ t → byte_put p a (byte ∷ []) q ≡ (if t then Some byte else page_byte p q)
-    cases true test =
-        let same : q ≡ a = eqb-true q a test in
-        let within : is_within a 1 q ≡ true = rw (le-leb a q (omega arith), lt-ltb q (a + 1) (omega arith)) refl in
-        let place : q - a ≡ 0 = omega arith in
-        rw (within, place) refl
-    cases false test =
-        let other = eqb-false q a test in
-        let apart : is_within a 1 q ≡ false =
-        false_from_ne_true (is_within a 1 q)
-        (λ e. let parts = and_parts (nat_le a q) (nat_lt q (a + 1)) e in
-        other (let low = leb-true a q parts.0 in let high = ltb-true q (a + 1) parts.1 in omega arith)) in
-        rw apart refl
+byte_put-one p a byte q =
+    grind (arith, common_steps, eqb-true, le-leb, lt-ltb, eqb-false, false_from_ne_true, and_parts, leb-true, ltb-true)
 
 -- The number in memory is the number of the bytes there.
 pub little_from-is : (memory : ℕ → ℕ) (xs : List ℕ) (n i a : ℕ) → a + n ≤ 2 ^ 64 →
@@ -197,8 +170,4 @@ byte_in-added old index bytes n page absent is added whole q =
 
 pub place-none : (p : Pages) (a : ℕ) → is_some (page_byte p a) ≡ false → place_of p.index (a / 4096) ≡ None
 unfolding byte_in
-place-none p a none = cases (place_of p.index (a / 4096)) none
-  where
-    cases : (r : Option ℕ) → is_some (option_map (λ i. get_or p.bytes.items (i * 4096 + a % 4096) 0) r) ≡ false → r ≡ None
-    cases None is = refl
-    cases (Some i) is = absurd (cc)
+place-none p a none = grind (arith, common_steps)

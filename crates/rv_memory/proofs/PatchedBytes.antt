@@ -1,7 +1,7 @@
 -- A list after bytes are written over a part of it.
-use Rattle.std.proofs.Common.{◌≡◌, ◌∙◌, sym, ap, refl, ℕ, ◌+◌, ◌-◌, ◌*◌, ◌/◌, ◌%◌, ◌≤◌, ◌<◌, ◌⊎◌, inl, inr, Bool, true, false}
+use Rattle.std.proofs.Common.{◌≡◌, ◌∙◌, sym, ap, refl, ℕ, ◌+◌, ◌-◌, ◌*◌, ◌/◌, ◌%◌, ◌≤◌, ◌<◌, ◌⊎◌, inl, inr}
 use Rattle.std.proofs.Common.{List, ◌++◌, length, take, drop, get_or, Option, Some, None, arith}
-use Rattle.std.specs.Prelude.{◌&&◌, nat_le, nat_lt, if◌then◌else◌}
+use Rattle.std.specs.Prelude.{if◌then◌else◌}
 use Rattle.std.specs.Option.{option_map}
 use Rattle.std.proofs.lemmas.Grind.{common_steps}
 use Rattle.std.proofs.lemmas.List.{get_or-drop, get_or-take, get_or_append_left, get_or-append_right}
@@ -33,26 +33,13 @@ length-patched at ys xs within = grind (arith, common_steps)
 pub get_or-patched_there : (at : ℕ) (ys xs : List ℕ) (k : ℕ) → at + length ys ≤ length xs → k < length ys →
     get_or (patched at ys xs) (at + k) 0 ≡ get_or ys k 0
 unfolding patched
-get_or-patched_there at ys xs k within here =
-    let front : length (take at xs) ≡ at = grind (arith, common_steps) in
-    let place : at + k - at ≡ k = omega arith in
-    get_or-append_right (take at xs) _ at (at + k) 0 front (omega arith)
-    ∙ ap (λ (j : ℕ). get_or (ys ++ drop (at + length ys) xs) j 0) place
-    ∙ get_or_append_left ys (drop (at + length ys) xs) 0 k here
+get_or-patched_there at ys xs k within here = grind (arith, common_steps, get_or-append_right, get_or_append_left)
 
 pub get_or-patched_beside : (at : ℕ) (ys xs : List ℕ) (k : ℕ) → at + length ys ≤ length xs → (k < at) ⊎ (at + length ys ≤ k) →
     get_or (patched at ys xs) k 0 ≡ get_or xs k 0
 unfolding patched
-get_or-patched_beside at ys xs k within (inl low) =
-    let front : length (take at xs) ≡ at = grind (arith, common_steps) in
-    get_or_append_left (take at xs) _ 0 k (omega arith) ∙ get_or-take at xs k 0 low
-get_or-patched_beside at ys xs k within (inr high) =
-    let front : length (take at xs) ≡ at = grind (arith, common_steps) in
-    let place : (at + length ys) + ((k - at) - length ys) ≡ k = omega arith in
-    get_or-append_right (take at xs) _ at k 0 front (omega arith)
-    ∙ get_or-append_right ys (drop (at + length ys) xs) (length ys) (k - at) 0 refl (omega arith)
-    ∙ get_or-drop (at + length ys) xs ((k - at) - length ys) 0
-    ∙ ap (λ (j : ℕ). get_or xs j 0) place
+get_or-patched_beside at ys xs k within (inl low) = grind (arith, common_steps, get_or_append_left, get_or-take)
+get_or-patched_beside at ys xs k within (inr high) = grind (arith, common_steps, get_or-append_right, get_or-drop)
 
 -- Pages are consecutive in the list, at the index of each page number.
 module _ (place : ℕ → Option ℕ) (numbers xs : List ℕ) (numbered : (q i : ℕ) → place q ≡ Some i → get_or numbers i 0 ≡ q) where
@@ -62,12 +49,7 @@ module _ (place : ℕ → Option ℕ) (numbers xs : List ℕ) (numbered : (q i :
     there : (q : ℕ) → a ≤ q → q < a + length ys →
         option_map (λ j. get_or (patched (i * 4096 + a % 4096) ys xs) (j * 4096 + q % 4096) 0) (place (q / 4096))
         ≡ Some (get_or ys (q - a) 0)
-    there q from to =
-        let page : q / 4096 ≡ a / 4096 = omega arith in
-        let offset : i * 4096 + q % 4096 ≡ i * 4096 + a % 4096 + (q - a) = omega arith in
-        ap (λ r. option_map (λ j. get_or (patched (i * 4096 + a % 4096) ys xs) (j * 4096 + q % 4096) 0) r) (ap place page ∙ found)
-        ∙ ap (λ k. Some (get_or (patched (i * 4096 + a % 4096) ys xs) k 0)) offset
-        ∙ ap Some (get_or-patched_there (i * 4096 + a % 4096) ys xs (q - a) within (omega arith))
+    there q from to = grind (arith, common_steps, get_or-patched_there)
 
     apart : (q j : ℕ) → place (q / 4096) ≡ Some j → (q < a) ⊎ (a + length ys ≤ q) → (j * 4096 + q % 4096 < i * 4096 + a % 4096)
         ⊎ (i * 4096 + a % 4096 + length ys ≤ j * 4096 + q % 4096)
@@ -93,20 +75,7 @@ module _ (place : ℕ → Option ℕ) (numbers xs : List ℕ) (numbered : (q i :
         option_map (λ j. get_or (patched (i * 4096 + a % 4096) ys xs) (j * 4096 + q % 4096) 0) (place (q / 4096))
         ≡ (if is_within a (length ys) q then Some (get_or ys (q - a) 0)
         else option_map (λ j. get_or xs (j * 4096 + q % 4096) 0) (place (q / 4096)))
-    page_patched q = by_start (nat_le a q) refl
-      where
-        by_end : a ≤ q → (t : Bool) → nat_lt q (a + length ys) ≡ t →
-            option_map (λ j. get_or (patched (i * 4096 + a % 4096) ys xs) (j * 4096 + q % 4096) 0) (place (q / 4096))
-            ≡ (if t then Some (get_or ys (q - a) 0) else option_map (λ j. get_or xs (j * 4096 + q % 4096) 0) (place (q / 4096)))
-        by_end from true test = there q from (ltb-true q (a + length ys) test)
-        by_end from false test = elsewhere q (inr (ltb-false q (a + length ys) test)) (place (q / 4096)) refl
-
-        by_start : (t : Bool) → nat_le a q ≡ t →
-            option_map (λ j. get_or (patched (i * 4096 + a % 4096) ys xs) (j * 4096 + q % 4096) 0) (place (q / 4096))
-            ≡ (if t && nat_lt q (a + length ys) then Some (get_or ys (q - a) 0)
-            else option_map (λ j. get_or xs (j * 4096 + q % 4096) 0) (place (q / 4096)))
-        by_start true test = by_end (leb-true a q test) (nat_lt q (a + length ys)) refl
-        by_start false test = elsewhere q (inl (leb-false a q test)) (place (q / 4096)) refl
+    page_patched q = grind (arith, common_steps, there, ltb-true, elsewhere, ltb-false, leb-true, leb-false)
 
 -- The result of writing to a part of a slice.
 pub mid_patched : (at k : ℕ) (xs ys zs : List ℕ) → zs ≡ ys → k ≡ length ys → at + k ≤ length xs →
@@ -123,11 +92,7 @@ little_bytes-low_bytes n v =
 pub number_patched : (at n v : ℕ) (xs zs : List ℕ) → at + n ≤ length xs → zs ≡ little_bytes n (v % 256 ^ n)
     ++ drop n (take (length xs - at) (drop at xs)) → put_mid at (length xs - at) xs zs ≡ patched at (low_bytes n v) xs
 unfolding patched
-number_patched at n v xs zs within is =
-    ap (λ ys. take at xs ++ (ys ++ drop (length xs - at) (drop at xs))) is
-    ∙ patched_at at n xs (little_bytes n (v % 256 ^ n))
-    ∙ ap (λ ys. take at xs ++ (ys ++ drop (at + n) xs)) (little_bytes-low_bytes n v)
-    ∙ ap (λ (k : ℕ). take at xs ++ (low_bytes n v ++ drop (at + k) xs)) (sym (length_low_bytes n v))
+number_patched at n v xs zs within is = grind (arith, common_steps, patched_at, little_bytes-low_bytes, length_low_bytes)
 
 pub set_one : (at v : ℕ) (xs : List ℕ) → at + 1 ≤ length xs → set xs at v ≡ patched at (v ∷ []) xs
 unfolding patched
@@ -139,6 +104,4 @@ set_patched at v xs within = set_one at (v % 256) xs within
 
 pub whole_patched : (at n v : ℕ) (xs zs : List ℕ) → at + n ≤ length xs → v % 256 ^ n ≡ v → zs ≡ little_bytes n v
     ++ drop n (take (length xs - at) (drop at xs)) → put_mid at (length xs - at) xs zs ≡ patched at (low_bytes n v) xs
-whole_patched at n v xs zs within fits is =
-    number_patched at n v xs zs within
-    (is ∙ ap (λ (w : ℕ). little_bytes n w ++ drop n (take (length xs - at) (drop at xs))) (sym fits))
+whole_patched at n v xs zs within fits is = grind (arith, common_steps, number_patched)

@@ -9,6 +9,7 @@ use Rattle.std.proofs.lemmas.List.Edits.{length-insert, get_or-insert_below, get
 use Rattle.std.proofs.Math.Nat.{eq-or-lt_of_le}
 use Rattle.rb_lanes.specs.Ranks.{rank}
 use Rattle.rv_memory.specs.PageIndex.{beside}
+use Rattle.std.proofs.lemmas.Grind.{common_steps}
 
 pub record Ascends (xs : List ℕ) : Type 0 where
   pub at : (i j : ℕ) → i < j → j < length xs → get_or xs i 0 < get_or xs j 0
@@ -23,12 +24,10 @@ rank-cons : (x n : ℕ) (xs : List ℕ) → rank (x ∷ xs) n ≡ (if nat_le x n
 rank-cons x n xs = sum_by-cons (λ y. if nat_le y n then 1 else 0) x xs
 
 rank-low : (x n : ℕ) (xs : List ℕ) → nat_le x n ≡ true → rank (x ∷ xs) n ≡ suc (rank xs n)
-rank-low x n xs low =
-    let e : rank (x ∷ xs) n ≡ 1 + rank xs n = rank-cons x n xs ∙ ap (λ t. (if t then 1 else 0) + rank xs n) low in omega arith
+rank-low x n xs low = grind (arith, common_steps, rank-cons)
 
 rank-high : (x n : ℕ) (xs : List ℕ) → nat_le x n ≡ false → rank (x ∷ xs) n ≡ rank xs n
-rank-high x n xs high =
-    let e : rank (x ∷ xs) n ≡ 0 + rank xs n = rank-cons x n xs ∙ ap (λ t. (if t then 1 else 0) + rank xs n) high in omega arith
+rank-high x n xs high = grind (arith, common_steps, rank-cons)
 
 rank_none : (xs : List ℕ) (n : ℕ) → ((k : ℕ) → k < length xs → n < get_or xs k 0) → rank xs n ≡ 0
 rank_none [] n above = refl
@@ -39,11 +38,7 @@ rank_none (x ∷ xs) n above =
 
 pub rank_most : (xs : List ℕ) (n : ℕ) → rank xs n ≤ length xs
 rank_most [] n = omega arith
-rank_most (x ∷ xs) n = cases (rank_most xs n) (nat_le x n) refl
-  where
-    cases : rank xs n ≤ length xs → (t : Bool) → nat_le x n ≡ t → rank (x ∷ xs) n ≤ suc (length xs)
-    cases rest true e = let step = rank-low x n xs e in omega arith
-    cases rest false e = let step = rank-high x n xs e in omega arith
+rank_most (x ∷ xs) n = grind (arith, common_steps, rank-low, rank-high, rank_most xs n)
 
 -- The members before the rank of a number are at most the number.
 pub rank_below : (xs : List ℕ) → Ascends xs → (n k : ℕ) → k < rank xs n → get_or xs k 0 ≤ n
@@ -63,16 +58,8 @@ rank_below (x ∷ xs) up n k low = cases (rank_below xs (ascends_rest x xs up) n
 -- The members from the rank on are greater.
 pub rank_above : (xs : List ℕ) → Ascends xs → (n k : ℕ) → rank xs n ≤ k → k < length xs → n < get_or xs k 0
 rank_above [] up n k high within = absurd (omega arith)
-rank_above (x ∷ xs) up n k high within = cases (rank_above xs (ascends_rest x xs up) n) (nat_le x n) refl k high within
-  where
-    cases : ((j : ℕ) → rank xs n ≤ j → j < length xs → n < get_or xs j 0) → (t : Bool) → nat_le x n ≡ t →
-        (k : ℕ) → rank (x ∷ xs) n ≤ k → k < suc (length xs) → n < get_or (x ∷ xs) k 0
-    cases rest true e zero high within = let step = rank-low x n xs e in absurd (omega arith)
-    cases rest true e (suc j) high within = let step = rank-low x n xs e in rest j (omega arith) (omega arith)
-    cases rest false e zero high within = leb-false x n e
-    cases rest false e (suc j) high within =
-        let first : n < x = leb-false x n e in
-        let more = above_first x xs up j (omega arith) in omega arith
+rank_above (x ∷ xs) up n k high within =
+    grind (arith, common_steps, ascends_rest, rank-low, leb-false, above_first, rank_above xs (ascends_rest x xs up) n)
 
 -- If the last member before the rank isn't the number, no member is.
 pub rank_absent : (xs : List ℕ) → Ascends xs → (n : ℕ) → (0 < rank xs n → get_or xs (rank xs n - 1) 0 ≢ n) →
@@ -110,14 +97,7 @@ pub beside_absent : (xs places : List ℕ) → length places ≡ length xs → (
 unfolding beside
 beside_absent [] places paired n none j within is = absurd (omega arith)
 beside_absent (x ∷ xs) [] paired n none j within is = absurd (omega arith)
-beside_absent (x ∷ xs) (p ∷ ps) paired n none j within is =
-    cases (beside_absent xs ps (omega arith) n) (n == x) refl none j within is
-  where
-    cases : (beside xs ps n ≡ None → (j : ℕ) → j < length xs → get_or xs j 0 ≢ n) → (t : Bool) → (n == x) ≡ t →
-        (if t then Some p else beside xs ps n) ≡ None → (j : ℕ) → j < suc (length xs) → get_or (x ∷ xs) j 0 ≢ n
-    cases rest true e found j within is = absurd (cc)
-    cases rest false e found zero within is = eqb-false n x e (sym is)
-    cases rest false e found (suc j) within is = rest found j (omega arith) is
+beside_absent (x ∷ xs) (p ∷ ps) paired n none j within is = grind (arith, common_steps, eqb-false, beside_absent xs ps (omega arith) n)
 
 pub beside-insert : (xs places : List ℕ) (i n p q : ℕ) → length places ≡ length xs → i ≤ length xs → beside xs places n ≡ None →
     beside (insert xs i n) (insert places i p) q ≡ (if q == n then Some p else beside xs places q)

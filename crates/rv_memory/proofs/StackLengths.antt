@@ -1,5 +1,5 @@
 -- The lengths of the parts of an initial stack, and the low bytes of its numbers.
-use Rattle.std.proofs.Common.{◌≡◌, ◌∙◌, ◌+◌, ◌-◌, ◌*◌, ◌/◌, ◌%◌, ◌^◌, ◌<◌, ◌≤◌, ℕ, zero, suc, List, [], ◌∷◌, ◌++◌, refl, sym, ap}
+use Rattle.std.proofs.Common.{◌≡◌, ◌+◌, ◌-◌, ◌*◌, ◌/◌, ◌%◌, ◌^◌, ◌≤◌, ℕ, zero, suc, List, [], ◌∷◌, ◌++◌, refl, ap}
 use Rattle.std.proofs.Common.{arith, length, take, take_all, length-append, append_assoc}
 use Rattle.std.proofs.lemmas.List.{length-replicate}
 use Rattle.std.proofs.lemmas.List.Sums.{sum_by-cons}
@@ -7,30 +7,21 @@ use Rattle.std.proofs.Math.Nat.{one-le-pow, pow-suc}
 use Rattle.std.proofs.Math.Arith.{mod-mul}
 use Rattle.std.proofs.lemmas.Nat.{mod-mul-add, div-mul-add}
 use Rattle.std.proofs.lemmas.Grind.{flat_map-append}
-use Rattle.std.specs.Prelude.{flat_map, sum_by, codes, replicate}
+use Rattle.std.specs.Prelude.{flat_map, sum_by, replicate}
 use Rattle.rv_code.specs.machine.Machine.{low_bytes}
 use Rattle.rv_code.proofs.machine.LowBytes.{length_numbers}
-use Rattle.elf_image.specs.declared.segment.TheConstants.{PHDR_SIZE}
 use Rattle.elf_image.specs.file.Header.{e_entry, e_phnum}
-use Rattle.elf_image.specs.memory.Break.{page_size, rounded_down, table_address}
+use Rattle.elf_image.specs.memory.Break.{rounded_down, table_address}
 use Rattle.rv_memory.specs.Start.{random_address, random_bytes, stack_end, stack_size, stack_pointer, stack_bytes}
 use Rattle.rv_memory.specs.Start.{program_arguments, texts, texts_address, text_addresses, auxiliary_vector, start_bytes}
 use Rattle.rv_memory.specs.Vector.{vector}
 use Rattle.rv_memory.specs.Limits.{IsWithinLimits}
+use Rattle.std.proofs.lemmas.Grind.{common_steps}
 
 pub low_bytes-mod : (k x : ℕ) → low_bytes k (x % 256 ^ k) ≡ low_bytes k x
 unfolding low_bytes
 low_bytes-mod zero x = refl
-low_bytes-mod (suc k) x =
-    let power : 0 < 256 ^ k = one-le-pow k 256 (omega arith) in
-    let low : x % 256 < 256 = omega arith in
-    let split : x % 256 ^ suc k ≡ (x / 256 % 256 ^ k) * 256 + x % 256 = ap (λ (m : ℕ). x % m) (pow-suc 256 k)
-    ∙ mod-mul x {m = 256 ^ k} {c = 256} power (omega arith) in
-    let first : x % 256 ^ suc k % 256 ≡ x % 256 =
-    ap (λ (n : ℕ). n % 256) split ∙ mod-mul-add (x / 256 % 256 ^ k) 256 (x % 256) low in
-    let rest : x % 256 ^ suc k / 256 ≡ x / 256 % 256 ^ k = ap (λ (n : ℕ). n / 256) split
-    ∙ div-mul-add (x / 256 % 256 ^ k) 256 (x % 256) low in
-    rw (first, rest, low_bytes-mod k (x / 256)) refl
+low_bytes-mod (suc k) x = grind (arith, common_steps, one-le-pow, pow-suc, mod-mul, mod-mul-add, div-mul-add, low_bytes-mod k (x / 256))
 
 pub low_bytes-number : (x : ℕ) → low_bytes 8 (x % 2 ^ 64) ≡ low_bytes 8 x
 low_bytes-number x = low_bytes-mod 8 x
@@ -42,22 +33,7 @@ pub start_bytes-is : (file : List ℕ) (args : List (List ℕ)) →
     ++ flat_map (low_bytes 8) (0 ∷ 0 ∷ []))
     ++ flat_map (low_bytes 8) (vector (table_address file % 2 ^ 64) (e_phnum file) (e_entry file))
     ≡ start_bytes file args
-start_bytes-is file args =
-    let addresses = text_addresses (texts_address args) (program_arguments args) in
-    let wrapped : flat_map (low_bytes 8) (vector (table_address file % 2 ^ 64) (e_phnum file) (e_entry file))
-    ≡ flat_map (low_bytes 8) (auxiliary_vector file) =
-    ap (λ bytes. low_bytes 8 3
-    ++ (bytes ++ flat_map (low_bytes 8)
-    (4 ∷ PHDR_SIZE ∷ 5 ∷ e_phnum file ∷ 6 ∷ page_size ∷ 9 ∷ e_entry file ∷ 25 ∷ random_address ∷ 0 ∷ 0 ∷ [])))
-    (low_bytes-number (table_address file)) in
-    ap (λ bytes.
-    ((low_bytes 8 (length (program_arguments args)) ++ flat_map (low_bytes 8) addresses) ++ flat_map (low_bytes 8) (0 ∷ 0 ∷ []))
-    ++ bytes) wrapped
-    ∙ append_assoc (low_bytes 8 (length (program_arguments args)) ++ flat_map (low_bytes 8) addresses)
-    (flat_map (low_bytes 8) (0 ∷ 0 ∷ [])) (flat_map (low_bytes 8) (auxiliary_vector file))
-    ∙ ap (λ bytes. (low_bytes 8 (length (program_arguments args)) ++ flat_map (low_bytes 8) addresses) ++ bytes)
-    (sym (flat_map-append (low_bytes 8) (0 ∷ 0 ∷ []) (auxiliary_vector file)))
-    ∙ sym (flat_map-append (low_bytes 8) (length (program_arguments args) ∷ addresses) (0 ∷ 0 ∷ auxiliary_vector file))
+start_bytes-is file args = grind (arith, common_steps, low_bytes-number, append_assoc, flat_map-append)
 
 pub length-text_addresses : (a : ℕ) (ts : List (List ℕ)) → length (text_addresses a ts) ≡ length ts
 length-text_addresses a [] = refl
@@ -81,12 +57,7 @@ length-ended (w ∷ args) =
     omega (arith, rest, both, one, lengths, whole, count)
 
 pub length-texts : (args : List (List ℕ)) → IsWithinLimits args → length (texts args) ≤ 65608
-length-texts args limits =
-    let rest : length (flat_map (λ text. text ++ 0 ∷ []) args) ≡ sum_by (λ arg. length arg) args + length args =
-    length-ended args in
-    let both : length (texts args) ≡ 8 + length (flat_map (λ text. text ++ 0 ∷ []) args) =
-    length-append (codes "program" ++ 0 ∷ []) (flat_map (λ text. text ++ 0 ∷ []) args) in
-    omega (arith, rest, both, limits.few, limits.short)
+length-texts args limits = grind (arith, common_steps, length-ended, length-append)
 
 pub length-start_bytes : (file : List ℕ) (args : List (List ℕ)) →
     length (start_bytes file args) ≡ 8 * (length (program_arguments args) + 17)
@@ -130,29 +101,14 @@ stack_bytes-end file args limits =
 -- The numbers at the stack pointer end at or below the arguments' texts.
 pub start_bytes-room : (file : List ℕ) (args : List (List ℕ)) → IsWithinLimits args →
     length (start_bytes file args) ≤ texts_address args - stack_pointer args
-start_bytes-room file args limits =
-    let short : length (texts args) ≤ 65608 = length-texts args limits in
-    let few : length (program_arguments args) ≤ 65 = omega (arith, limits.few) in
-    room (length (texts args)) (length (program_arguments args)) (length (start_bytes file args)) short few
-    (length-start_bytes file args)
-  where
-    room : (t n s : ℕ) → t ≤ 65608 → n ≤ 65 → s ≡ 8 * (n + 17) →
-        s ≤ random_address - t - rounded_down 16 (random_address - t - 8 * (n + 17))
-    room t n s short few started = omega (arith, short, few, started)
+start_bytes-room file args limits = grind (arith, common_steps, length-texts, length-start_bytes)
 
 -- Bytes that are padded with zeros to a length.
 pub padded : (out start : List ℕ) (n len m : ℕ) → out ≡ start → len ≡ length out → length start ≤ n →
     m ≡ n - length start → take n out
     ++ replicate (n - len) 0 ≡ start ++ replicate m 0
-padded out start n len m same is fits size =
-    let all : take n start ≡ start = take_all n start fits in
-    rw (is, same, all, size) refl
+padded out start n len m same is fits size = grind (arith, common_steps, take_all)
 
 -- The stack has room for its bytes.
 pub stack_pointer-within : (args : List (List ℕ)) → IsWithinLimits args → stack_end - stack_size ≤ stack_pointer args
-stack_pointer-within args limits =
-    let few : length (program_arguments args) ≤ 65 = omega (arith, limits.few) in
-    within (length (texts args)) (length (program_arguments args)) (length-texts args limits) few
-  where
-    within : (t n : ℕ) → t ≤ 65608 → n ≤ 65 → stack_end - stack_size ≤ rounded_down 16 (random_address - t - 8 * (n + 17))
-    within t n short few = omega (arith, short, few)
+stack_pointer-within args limits = grind (arith, common_steps, length-texts)

@@ -6,6 +6,7 @@ use Rattle.rv_code.specs.machine.Machine.{plus, put}
 use Rattle.rv_memory.specs.Start.{in_stack, stack_end, stack_size}
 use Rattle.rb_bytes.proofs.Tests.{clash}
 use Rattle.rb_bytes.proofs.ListLemmas.{zeros}
+use Rattle.std.proofs.lemmas.Grind.{common_steps}
 
 plus_one : (a n : ℕ) → a + suc n < 2 ^ 64 → plus a 1 ≡ a + 1
 plus_one a n h = omega arith
@@ -66,15 +67,7 @@ in_stack-both q from before = rw (from, before) refl
 
 -- An address outside the stack.
 beside : (q : ℕ) → in_stack q ≡ false → (P : Type 0) → (q < stack_end - stack_size → P) → (stack_end ≤ q → P) → P
-beside q test P under over = by_end (nat_lt q stack_end) refl
-  where
-    by_start : nat_lt q stack_end ≡ true → (u : Bool) → nat_le (stack_end - stack_size) q ≡ u → P
-    by_start before true from = absurd (clash (in_stack q) (in_stack-both q from before) test)
-    by_start before false from = under (leb-false (stack_end - stack_size) q from)
-
-    by_end : (t : Bool) → nat_lt q stack_end ≡ t → P
-    by_end false past = over (ltb-false q stack_end past)
-    by_end true before = by_start before (nat_le (stack_end - stack_size) q) refl
+beside q test P under over = grind (arith, common_steps, clash, in_stack-both, leb-false, ltb-false)
 
 -- Bytes that end at the end of the stack, over zeros in the stack and the image elsewhere.
 module _ (bytes : List ℕ) (pointer : ℕ) (image memory : ℕ → ℕ) (is : (q : ℕ) → memory q ≡ (if in_stack q then 0 else image q))
@@ -88,22 +81,12 @@ module _ (bytes : List ℕ) (pointer : ℕ) (image memory : ℕ → ℕ) (is : (
   inside q under nought false test = put_below memory pointer q bytes low (leb-false pointer q test) ∙ nought
 
   outside : (q : ℕ) → in_stack q ≡ false → put memory pointer bytes q ≡ memory q
-  outside q test =
-      beside q test (put memory pointer bytes q ≡ memory q)
-      (λ under. put_below memory pointer q bytes low (omega (arith, under, within)))
-      (λ over. put_past memory pointer q bytes low (omega (arith, ends, over)))
+  outside q test = grind (arith, common_steps, beside, put_below, low, put_past)
 
   pub put_stack : (q : ℕ) →
       put memory pointer bytes q
       ≡ (if in_stack q then if nat_le pointer q then slice_index bytes (q - pointer) else 0 else image q)
-  put_stack q = by_stack (in_stack q) refl
-    where
-      by_stack : (t : Bool) → in_stack q ≡ t →
-          put memory pointer bytes q ≡ (if t then if nat_le pointer q then slice_index bytes (q - pointer) else 0 else image q)
-      by_stack true test =
-          inside q (ltb-true q stack_end (and_parts (nat_le (stack_end - stack_size) q) (nat_lt q stack_end) test).1)
-          (is q ∙ ap (λ (t : Bool). if t then 0 else image q) test) (nat_le pointer q) refl
-      by_stack false test = outside q test ∙ is q ∙ ap (λ (t : Bool). if t then 0 else image q) test
+  put_stack q = grind (arith, common_steps, inside, ltb-true, and_parts, outside)
 
 -- The initial registers.
 

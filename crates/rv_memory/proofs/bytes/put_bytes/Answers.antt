@@ -1,7 +1,7 @@
 use Rattle.std.proofs.Common.{arith}
+use Rattle.std.proofs.lemmas.Grind.{common_steps}
 use Rattle.rv_memory.proofs.PatchedBytes.{mid_patched}
 use Rattle.rv_memory.proofs.bytes.put_bytes.Goals as goal
 
 pub returns : goal.returns
-returns c = mid_patched c.args.at _ c.args.bytes.now c.args.new.now c.copy_from_slice.new.self c.copy_from_slice.ensures.after
-    (omega arith) (omega (arith, c.requires))
+returns c = grind (arith, common_steps, mid_patched)

@@ -8,18 +8,10 @@ use Rattle.rv_memory.proofs.StackLengths.{length-texts, start_bytes-room, padded
 use Rattle.rv_memory.proofs.stack.stack_bytes.Goals as goal
 
 pub overflow_sub-address : goal.overflow_sub-address
-overflow_sub-address c =
-    let args : List (List ℕ) = map string_bytes c.args.args.now in
-    let ends : length c.deref-ends.result.now ≡ length (texts args) =
-    ap length (c.deref-ends.ensures.value ∙ c.in_ok-ends.ensures) in
-    omega (arith, ends, length-texts args c.requires.limits)
+overflow_sub-address c = grind (arith, common_steps, length-texts)
 
 pub stack_pointer-pointer-requires-clause-room : goal.stack_pointer-pointer-requires-clause-room
-stack_pointer-pointer-requires-clause-room c =
-    let args : List (List ℕ) = map string_bytes c.args.args.now in
-    let ends : length c.deref-ends.result.now ≡ length (texts args) =
-    ap length (c.deref-ends.ensures.value ∙ c.in_ok-ends.ensures) in
-    omega (arith, ends, length-texts args c.requires.limits)
+stack_pointer-pointer-requires-clause-room c = grind (arith, common_steps, length-texts)
 
 pub returns : goal.returns
 returns c =

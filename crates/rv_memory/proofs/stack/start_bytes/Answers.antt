@@ -1,20 +1,18 @@
-use Rattle.std.proofs.Common.{◌≡◌, ◌∙◌, ◌+◌, ◌%◌, ◌^◌, ◌≤◌, ℕ, List, [], ◌∷◌, ◌++◌, ap, arith, length}
+use Rattle.std.proofs.Common.{◌≡◌, ◌∙◌, ◌+◌, ◌%◌, ◌^◌, ℕ, List, [], ◌∷◌, ◌++◌, ap, arith, length}
 use Rattle.std.proofs.lemmas.List.{length-map}
 use Rattle.std.specs.Prelude.{map, flat_map, string_bytes}
+use Rattle.std.proofs.lemmas.Grind.{common_steps}
 use Rattle.rv_code.specs.machine.Machine.{low_bytes}
 use Rattle.elf_image.specs.file.Header.{e_phnum}
 use Rattle.elf_image.specs.memory.Break.{table_address}
-use Rattle.rv_memory.specs.Start.{program_arguments, texts, texts_address, text_addresses}
+use Rattle.rv_memory.specs.Start.{program_arguments, texts_address, text_addresses}
 use Rattle.rv_memory.specs.Vector.{vector}
 use Rattle.rv_memory.proofs.StackLengths.{length-texts, start_bytes-is}
 use Rattle.elf_image.proofs.ReadLists.{length-segments_of}
 use Rattle.rv_memory.proofs.stack.start_bytes.Goals as goal
 
 pub put_addresses-requires : goal.put_addresses-requires
-put_addresses-requires c =
-    let short : length (texts (map string_bytes c.args.args.now)) ≤ 65608 =
-    length-texts (map string_bytes c.args.args.now) c.requires.limits in
-    omega (arith, c.requires.address, short)
+put_addresses-requires c = grind (arith, common_steps, length-texts)
 
 pub returns : goal.returns
 returns c =

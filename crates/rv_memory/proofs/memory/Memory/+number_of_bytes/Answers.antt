@@ -1,17 +1,14 @@
-use Rattle.std.proofs.Common.{◌≡◌, ◌≤◌, ◌^◌, ◌-◌, suc, ap, arith, ℕ}
+use Rattle.std.proofs.Common.{◌≡◌, ◌^◌, ◌-◌, suc, ap, arith, ℕ}
 use Rattle.std.proofs.Math.Nat.{pow-suc}
+use Rattle.std.proofs.lemmas.Grind.{common_steps}
 use Rattle.rv_memory.proofs.MemoryBytes.{byte_power}
 use Rattle.rv_memory.proofs.memory.Memory.+number_of_bytes.Goals as goal
 
 pub overflow_mul-result : goal.overflow_mul-result
-overflow_mul-result t c =
-    let p : 256 ^ (c.args.count - 1) ≤ 2 ^ 56 = byte_power (c.args.count - 1) (omega (arith, c.requires)) in
-    grind (arith, p, c.number_of_bytes-rest.ensures.below)
+overflow_mul-result t c = grind (arith, common_steps, byte_power)
 
 pub overflow_add-result : goal.overflow_add-result
-overflow_add-result t c =
-    let p : 256 ^ (c.args.count - 1) ≤ 2 ^ 56 = byte_power (c.args.count - 1) (omega (arith, c.requires)) in
-    grind (arith, p, c.number_of_bytes-rest.ensures.below)
+overflow_add-result t c = grind (arith, common_steps, byte_power)
 
 pub returns-clause-below : goal.returns-clause-below
 returns-clause-below t c =

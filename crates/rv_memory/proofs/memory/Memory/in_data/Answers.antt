@@ -1,6 +1,7 @@
-use Rattle.std.proofs.Common.{◌≡◌, ◌+◌, ◌-◌, ◌<◌, ◌≤◌, ℕ, arith, true, refl}
+use Rattle.std.proofs.Common.{◌≡◌, ◌+◌, ◌<◌, ◌≤◌, ℕ, arith, true, refl}
 use Rattle.std.proofs.lemmas.Bool.{le-leb, lt-ltb}
-use Rattle.rv_memory.specs.Start.{in_stack, stack_end, stack_size}
+use Rattle.std.proofs.lemmas.Grind.{common_steps}
+use Rattle.rv_memory.specs.Start.{in_stack}
 use Rattle.elf_image.specs.declared.segment.TheConstants.{PF_R, PF_W}
 use Rattle.elf_image.specs.memory.Image.{is_loaded_with}
 use Rattle.rv_memory.specs.Memory.{reads, writes, gained_by_break}
@@ -9,19 +10,7 @@ use Rattle.rv_memory.proofs.StackMemory.{in_stack-both}
 use Rattle.rv_memory.proofs.memory.Memory.in_data.Goals as goal
 
 pub returns-then-lies_in : goal.returns-then-lies_in
-returns-then-lies_in c = λ yes.
-    let m = c.args.self.now in
-    let a = c.args.address in
-    let n = c.args.count in
-    let within = c.lies_in.ensures.0 yes in
-    let low = within.0 in
-    let high = within.1 in
-    let here : (q : ℕ) → a ≤ q → q < a + n → in_stack q ≡ true =
-    λ q from to. in_stack-both q (le-leb (stack_end - stack_size) q (omega arith)) (lt-ltb q stack_end (omega arith)) in (
-      all_may-run (reads m) a n (omega arith) (λ q from to. or_second _ (in_stack q) _ (here q from to)),
-      all_may-run (writes m) a n
-          (omega arith) (λ q from to. or_second _ (in_stack q) _ (here q from to)),
-    )
+returns-then-lies_in c = grind (arith, common_steps, in_stack-both, le-leb, lt-ltb, all_may-run, or_second)
 
 pub returns-else-lies_in : goal.returns-else-lies_in
 returns-else-lies_in c = λ yes.

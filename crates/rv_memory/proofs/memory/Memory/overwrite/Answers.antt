@@ -3,20 +3,13 @@ use Rattle.std.proofs.lemmas.Grind.{common_steps}
 use Rattle.rv_code.specs.machine.Machine.{plus}
 use Rattle.rv_memory.specs.Memory.{memory_of}
 use Rattle.rv_memory.proofs.MemoryBytes.{put_none, put_next}
-use Rattle.rv_memory.specs.Memory.{writes}
 use Rattle.rv_memory.proofs.CodeKept.{all_may_each, writable-keeps}
 use Rattle.std.proofs.Common.{◌∙◌, ap, drop}
 use Rattle.rv_code.specs.machine.Machine.{put}
 use Rattle.rv_memory.proofs.memory.Memory.overwrite.Goals as goal
 
 pub loop-left-init : goal.loop-left-init
-loop-left-init c = record {
-  within = search rules;
-  room = c.requires.room;
-  writable = c.requires.writable;
-  written = λ q. put_none (memory_of c.args.self.now) c.args.address q c.args.bytes.now;
-  space_kept = search rules;
-}
+loop-left-init c = grind (arith, common_steps, put_none)
 
 pub loop-left-preserved : goal.loop-left-preserved
 loop-left-preserved c = record {
@@ -34,9 +27,7 @@ loop-left-preserved c = record {
 }
 
 pub overwrite_byte-requires-clause-writable : goal.overwrite_byte-requires-clause-writable
-overwrite_byte-requires-clause-writable c =
-    all_may_each (writes c.loop-left.self) c.args.address (length c.args.bytes.now) (c.loop-left.left - 1)
-    (omega arith) c.loop-left.invariant.writable (omega (arith, c.loop-left.invariant.within))
+overwrite_byte-requires-clause-writable c = grind (arith, common_steps, all_may_each)
 
 pub returns-clause-written : goal.returns-clause-written
 returns-clause-written c = λ q.

@@ -1,5 +1,6 @@
-use Rattle.std.proofs.Common.{◌≡◌, ◌∙◌, ◌/◌, None, ap, sym, get_or}
+use Rattle.std.proofs.Common.{◌≡◌, ◌∙◌, ◌/◌, None, ap, sym, get_or, arith}
 use Rattle.std.specs.Option.{is_some}
+use Rattle.std.proofs.lemmas.Grind.{common_steps}
 use Rattle.rv_memory.specs.Memory.{unwritten_byte}
 use Rattle.rv_memory.specs.PageIndex.{place_of}
 use Rattle.rv_memory.specs.Pages.{page_byte}
@@ -9,8 +10,7 @@ use Rattle.rv_memory.proofs.CodeKept.{code_taken}
 use Rattle.rv_memory.proofs.memory.Memory.reserve_byte.Goals as goal
 
 pub add-requires-clause-new : goal.add-requires-clause-new
-add-requires-clause-new c =
-    place-none c.args.self.now.pages c.args.address (ap is_some (sym c.byte.ensures) ∙ sym c.is_some.ensures ∙ c.if-is_some.false)
+add-requires-clause-new c = grind (arith, common_steps, place-none)
 
 pub returns-clause-kept : goal.returns-clause-kept
 returns-clause-kept c =

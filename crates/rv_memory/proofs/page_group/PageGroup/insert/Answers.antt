@@ -2,8 +2,8 @@ use Rattle.std.proofs.Common.{◌≡◌, ◌∙◌, ◌≤◌, ◌+◌, ℕ, sym
 use Rattle.std.specs.Prelude.{IsOk}
 use Rattle.std.specs.List.{insert}
 use Rattle.std.proofs.lemmas.List.Edits.{length-insert}
+use Rattle.std.proofs.lemmas.Grind.{common_steps}
 use Rattle.rb_lanes.specs.Ranks.{rank}
-use Rattle.rv_memory.specs.PageIndex.{beside}
 use Rattle.rv_memory.proofs.Ranks.{Ascends, rank_most, beside_absent, beside-insert, ascends-insert}
 use Rattle.rv_memory.proofs.page_group.PageGroup.insert.Goals as goal
 
@@ -31,17 +31,4 @@ invariant_of-self-2 c =
     }
 
 pub returns-clause-added : goal.returns-clause-added
-returns-clause-added c = λ ok q.
-    let xs = c.args.self.now.numbers.items in
-    let ps = c.args.self.now.places.items in
-    let n = c.args.number in
-    let is : c.rank-above.result ≡ rank xs n = c.rank-above.ensures
-    ∙ ap (λ ys. rank ys n) (c.deref.ensures.value ∙ c.reserve.ensures.items) in
-    let numbers : c.insert.new.self.items ≡ insert xs (rank xs n) n = (rw c.unwrap.ensures at c.insert.ensures.items)
-    ∙ ap (λ ys. insert ys c.rank-above.result n) c.reserve.ensures.items ∙ ap (λ i. insert xs i n) is in
-    let places : c.insert-2.new.self.items ≡ insert ps (rank xs n) c.args.place =
-    (rw c.unwrap-2.ensures at c.insert-2.ensures.items)
-    ∙ ap (λ ys. insert ys c.rank-above.result c.args.place) c.reserve-2.ensures.items ∙ ap (λ i. insert ps i c.args.place) is in
-    ap (λ ys. beside ys c.insert-2.new.self.items q) numbers
-    ∙ ap (λ ys. beside (insert xs (rank xs n) n) ys q) places
-    ∙ beside-insert xs ps (rank xs n) n c.args.place q c.args.self.now.paired (rank_most xs n) c.requires
+returns-clause-added c = grind (arith, common_steps, beside-insert, rank_most)

@@ -1,22 +1,19 @@
-use Rattle.std.proofs.Common.{◌≡◌, ◌∙◌, ◌++◌, ◌∷◌, [], ℕ, ◌*◌, Some, sym, ap, refl, rules, length}
+use Rattle.std.proofs.Common.{◌≡◌, ◌∙◌, ◌++◌, ◌∷◌, [], ℕ, ◌*◌, Some, sym, ap, refl, rules, length, arith}
 use Rattle.std.specs.Prelude.{IsOk, ◌==◌, if◌then◌else◌}
+use Rattle.std.proofs.lemmas.Grind.{common_steps}
 use Rattle.rv_memory.specs.PageIndex.{place_of}
 use Rattle.rv_memory.proofs.OneMoreNumber.{indexed_more, held_more, numbered_more}
 use Rattle.rv_memory.proofs.PageBytes.{on_err, byte_in-same, byte_in-added, sized_more}
 use Rattle.rv_memory.proofs.pages.Pages.add.Goals as goal
 
 pub returns-in_err-reserve-clause-kept : goal.returns-in_err-reserve-clause-kept
-returns-in_err-reserve-clause-kept c =
-    on_err _ (byte_in-same c.args.self.now.index c.reserve.new.self.items c.args.self.now c.reserve.ensures.items (λ n. refl))
+returns-in_err-reserve-clause-kept c = grind (arith, common_steps, on_err, byte_in-same)
 
 pub returns-in_err-reserve-2-clause-kept : goal.returns-in_err-reserve-2-clause-kept
-returns-in_err-reserve-2-clause-kept c =
-    on_err _ (byte_in-same c.args.self.now.index c.reserve.new.self.items c.args.self.now c.reserve.ensures.items (λ n. refl))
+returns-in_err-reserve-2-clause-kept c = grind (arith, common_steps, on_err, byte_in-same)
 
 pub returns-in_err-insert-clause-kept : goal.returns-in_err-insert-clause-kept
-returns-in_err-insert-clause-kept c =
-    on_err _
-    (byte_in-same c.insert.new.self c.reserve.new.self.items c.args.self.now c.reserve.ensures.items c.in_err-insert.ensures.kept)
+returns-in_err-insert-clause-kept c = grind (arith, common_steps, on_err, byte_in-same)
 
 pub invariant_of-self-2 : goal.invariant_of-self-2
 invariant_of-self-2 c =
@@ -44,14 +41,4 @@ invariant_of-self-2 c =
     }
 
 pub returns-clause-added : goal.returns-clause-added
-returns-clause-added c = λ ok q.
-    let p = c.args.self.now in
-    let n = c.args.number in
-    let page = c.args.page.now in
-    let done : IsOk c.extend_from_slice.result = search rules in
-    let bytes : c.extend_from_slice.new.self.items ≡ p.bytes.items ++ page = (rw done at c.extend_from_slice.ensures.items)
-    ∙ ap (λ ys. ys ++ page) c.reserve.ensures.items in
-    let size : c.len-place.result ≡ length p.numbers.items = c.len-place.ensures ∙ c.reserve-2.ensures.len ∙ p.numbers.ok.0 in
-    let is : (m : ℕ) → place_of c.insert.new.self m ≡ (if m == n then Some (length p.numbers.items) else place_of p.index m) =
-    λ m. c.in_ok-insert.ensures.added refl m ∙ ap (λ k. if m == n then Some k else place_of p.index m) size in
-    byte_in-added p c.insert.new.self c.extend_from_slice.new.self.items n page c.requires.new is bytes c.requires.whole q
+returns-clause-added c = grind (arith, common_steps, byte_in-added)

@@ -1,6 +1,6 @@
-use Rattle.std.proofs.Common.{◌≡◌, ◌∙◌, ◌*◌, ◌+◌, ◌/◌, ◌%◌, [], ◌∷◌, sym, arith, Some, None, rules}
+use Rattle.std.proofs.Common.{◌≡◌, ◌∙◌, ◌*◌, ◌+◌, ◌/◌, ◌%◌, [], ◌∷◌, sym, arith, Some}
+use Rattle.std.proofs.lemmas.Grind.{common_steps}
 use Rattle.rv_memory.specs.PageIndex.{place_of}
-use Rattle.rv_memory.specs.Pages.{page_byte}
 use Rattle.rv_memory.proofs.PatchedBytes.{set_one}
 use Rattle.rv_memory.proofs.PageBytes.{page_byte-none, page_written, byte_put-one, in_pages}
 use Rattle.rv_memory.proofs.pages.Pages.put_byte.Goals as goal
@@ -15,7 +15,4 @@ returns-in-Some c = λ q.
     (set_one (c.in-Some.place * 4096 + a % 4096) c.args.byte p.bytes.items within) q ∙ byte_put-one p a c.args.byte q
 
 pub returns-in_default : goal.returns-in_default
-returns-in_default c =
-    let none : place_of c.args.self.now.index (c.args.address / 4096) ≡ None = search rules in
-    let absent : page_byte c.args.self.now c.args.address ≡ None = page_byte-none c.args.self.now c.args.address none in
-    absurd (let some = rw absent at c.requires in cc)
+returns-in_default c = grind (arith, common_steps, page_byte-none)
