@@ -113,8 +113,9 @@ AreArcs links nodes around = All (λ arcs. All (IsArcOf links nodes) arcs.items)
 abbrev pub AreNodes : ℕ → List (Reverse ℕ × ℕ) → Type 0
 AreNodes nodes queued = All (λ e. e.1 < nodes) queued
 
--- Heights are sums of costs along ways: multiples of 2 ^ 32, plus 1 for each lowered count on the way. The level is the
--- multiple, rounded; and the rest is small, as it is on all ways of fewer than 2 ^ 30 links.
+-- A height adds up the costs of one way or of several: multiples of 2 ^ 32, plus or minus 1 for each lowered count on
+-- them. The level is the multiple, rounded; and the rest is small, as it is if the ways have fewer than 2 ^ 30 links
+-- together.
 abbrev pub level : ℕ → ℕ
 level h = (h + 2 ^ 31) / 2 ^ 32
 

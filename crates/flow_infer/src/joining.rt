@@ -48,9 +48,9 @@ fn prices(alloc: Global, heights: &[u64]) -> Result<Vec<i64>, NoMemory>
     Ok(prices)
 }
 
-// The level of a height: the height is a sum of costs, and its level is the number of changes by one that it contains,
-// so it is rounded to a multiple of 2^32. Each lowered count costs 1 more, which the rounding drops. `NoMemory` if
-// there are more than 2^30 lowered counts, which takes as many links, or if the height doesn't fit.
+// The level of a height: the height adds up the costs of one way or of several, and its level is the number of changes
+// by one that they contain, so it is rounded to a multiple of 2^32. Each lowered count costs 1 more, which the rounding
+// drops. `NoMemory` if the ways lower 2^30 counts or more together, or if the height doesn't fit.
 fn level(height: u64) -> Result<u64, NoMemory>
     ensures level { IfOk result (λ l. l ≡ level_of height) }
     ensures bound { IfOk result (λ l. l < 2 ^ 32) }

@@ -23,7 +23,7 @@ use Rattle.inline_frames.specs.declared.link.Link.{Link}
 use Rattle.inline_frames.specs.declared.naming.Naming.{Naming}
 use Rattle.inline_frames.proofs.LackingUnits.{IsElsewhere, is_elsewhere, no_links, no_naming}
 
--- A placeholder, for an index past the end.
+-- A default, for an index past the end.
 no_walked : Walked
 no_walked = record { place = 0; bytes = None; is_other = false }
 

@@ -15,7 +15,7 @@ use Rattle.inline_frames.specs.UnitChains.{chain_from, function_test, is_functio
 use Rattle.inline_frames.specs.declared.link.Link.{Link}
 use Rattle.inline_frames.specs.declared.tag.TheConstants.{DW_TAG_subprogram}
 
--- A placeholder, for an index past the end.
+-- A default, for an index past the end.
 pub no_entry : ListedEntry
 no_entry = record { place = 0; unit = 0; depth = 0; tag = 0; attrs = [] }
 
