@@ -1,17 +1,14 @@
 -- A code cell has 4 or 8 bytes.
-use Rattle.std.proofs.Common.{◌≡◌, ℕ, ◌/◌, List, Bool, true, false, ap, ◌∙◌, inl, inr, ◌⊎◌}
+use Rattle.std.proofs.Common.{◌≡◌, ℕ, ◌/◌, List, Bool, true, false, ap, ◌∙◌, inl, inr, ◌⊎◌, arith}
 use Rattle.std.specs.Prelude.{if◌then◌else◌, ◌==◌}
+use Rattle.std.proofs.lemmas.Grind.{common_steps}
 use Rattle.elf_image.specs.declared.elf.Elf.{Elf}
 use Rattle.elf_code.specs.Cells.{Field, IsField, pointer, slot, difference, Address}
 use Rattle.elf_code.proofs.Differences.{difference_bits}
 use Rattle.rv_memory.specs.Start.{start}
 
 pub field_width : (elf : Elf) (tabled : List (ℕ × ℕ)) (f : Field) → IsField elf tabled f → (f.width ≡ 4) ⊎ (f.width ≡ 8)
-field_width elf tabled f (pointer r counted address place width to number start content) = by (r.kind == 1) width
-  where
-    by : (b : Bool) → f.width ≡ (if b then 4 else 8) → (f.width ≡ 4) ⊎ (f.width ≡ 8)
-    by true e = inl e
-    by false e = inr e
+field_width elf tabled f (pointer r counted address place width to number start content) = grind (arith, common_steps)
 field_width elf tabled f (slot r kind upper width to number label start content) = inr width
 field_width elf tabled f (difference r bits to from is can code whole place width content) =
     of_bits bits width (difference_bits elf r bits to from is can)

@@ -8,6 +8,7 @@ use Rattle.std.proofs.lemmas.Int.{ints}
 use Rattle.std.specs.Ordering.{int_eq}
 use Rattle.std.proofs.lemmas.Bool.Decides.{Decides-int_eq}
 use Rattle.std.proofs.lemmas.Bool.{eqb-true, ne_eqb, cases_lt, or_cases}
+use Rattle.std.proofs.lemmas.Grind.{common_steps}
 use Rattle.rv_code.specs.declared.inst.Inst.{Inst}
 use Rattle.rv_code.specs.declared.inst.Inst.TheVariants.{Lui, Auipc, Jalr}
 use Rattle.rv_code.specs.declared.cell.CellKind.{CellKind}
@@ -69,17 +70,10 @@ pub record CodeFacts (code : ProgramCode) : Type 0 where
 -- Numbers.
 
 pub bounded_of : (t : ℕ) → ((IsAddress (pos t) → ⊥) → ⊥) → t ≤ address_end
-bounded_of t h = elim (cases_lt address_end t) [
-  | inl above ↦ absurd (h (λ a. let l = a.1 in omega (arith, ints, l, above)))
-  | inr low ↦ low
-]
+bounded_of t h = grind (arith, common_steps, cases_lt, ints)
 
 pub same_int : (x y : ℤ) → ((x ≢ y) → ⊥) → x ≡ y
-same_int x y h = by (int_eq x y) refl
-  where
-    by : (b : Bool) → int_eq x y ≡ b → x ≡ y
-    by true e = (Decides-int_eq x y).0 e
-    by false e = absurd (h (λ p. absurd (let t : true ≡ false = sym ((Decides-int_eq x y).1 p) ∙ e in cc)))
+same_int x y h = grind (arith, common_steps)
 
 pub same_pos : (x y : ℕ) → pos x ≡ pos y → x ≡ y
 same_pos x y e = cc
@@ -88,17 +82,11 @@ same_pos x y e = cc
 
 pub same_auipc : (elf : Elf) (a b rd rd' : ℕ) (upper upper' : ℤ) → a ≡ b → IsInstAt elf a (Auipc rd upper) 4 →
     IsInstAt elf b (Auipc rd' upper') 4 → upper ≡ upper'
-same_auipc elf a b rd rd' upper upper' same x y =
-    let f = full_at elf b (Auipc rd upper) (subst (λ (n : ℕ). IsInstAt elf n (Auipc rd upper) 4) same x) in
-    let g = full_at elf b (Auipc rd' upper') y in
-    sym f.row.imm_is ∙ g.row.imm_is
+same_auipc elf a b rd rd' upper upper' same x y = grind (arith, common_steps, full_at)
 
 pub same_jalr : (elf : Elf) (a b rd rd' rs1 rs1' : ℕ) (lower lower' : ℤ) → a ≡ b → IsInstAt elf a (Jalr rd rs1 lower) 4 →
     IsInstAt elf b (Jalr rd' rs1' lower') 4 → (rs1 ≡ rs1') × (lower ≡ lower')
-same_jalr elf a b rd rd' rs1 rs1' lower lower' same x y =
-    let f = full_at elf b (Jalr rd rs1 lower) (subst (λ (n : ℕ). IsInstAt elf n (Jalr rd rs1 lower) 4) same x) in
-    let g = full_at elf b (Jalr rd' rs1' lower') y in
-    (sym f.row.rs1_is ∙ g.row.rs1_is, sym f.row.imm_is ∙ g.row.imm_is)
+same_jalr elf a b rd rd' rs1 rs1' lower lower' same x y = grind (arith, common_steps, full_at)
 
 -- Call pairs at one place.
 
@@ -108,12 +96,7 @@ pub record SameCall {elf : Elf} {r s : Relocation} (p : CallPair elf r) (q : Cal
   pub bases : p.base ≡ q.base
 
 pub same_call : (elf : Elf) (r s : Relocation) (p : CallPair elf r) (q : CallPair elf s) → r.place ≡ s.place → SameCall p q
-same_call elf r s p q same =
-    let upper = same_auipc elf r.place s.place p.rd q.rd p.upper q.upper same p.auipc.is_inst q.auipc.is_inst in
-    let next : r.place + 4 ≡ s.place + 4 = ap (λ (n : ℕ). n + 4) same in
-    let jalr = same_jalr elf (r.place + 4) (s.place + 4) p.link q.link p.base q.base p.lower q.lower next p.jalr.is_inst
-    q.jalr.is_inst in
-    record { uppers = upper; lowers = jalr.1; bases = jalr.0 }
+same_call elf r s p q same = grind (arith, common_steps, same_auipc, same_jalr)
 
 -- Types of relocations.
 
@@ -122,20 +105,10 @@ call_kind k (inl e) = let h : k ≡ 18 = eqb-true k 18 e in omega (arith, h)
 call_kind k (inr e) = let h : k ≡ 19 = eqb-true k 19 e in omega (arith, h)
 
 hi_kind : (k : ℕ) → is_pcrel_hi k ≡ true → 20 ≤ k
-hi_kind k e = elim (cases_lt k 20) [
-  | inl low ↦ absurd (
-      let apart : (n : ℕ) → 20 ≤ n → (k == n) ≡ false = λ n from. ne_eqb k n (λ z. absurd (omega (arith, z, low, from))) in
-      let f : is_pcrel_hi k ≡ false =
-      rw (apart 20 (omega arith), apart 21 (omega arith), apart 22 (omega arith), apart 23 (omega arith)) refl in
-      cc)
-  | inr high ↦ high
-]
+hi_kind k e = grind (arith, common_steps, cases_lt, ne_eqb)
 
 kinds_apart : (k k' : ℕ) → is_call_pair k ≡ true → is_pcrel_hi k' ≡ true → k < k'
-kinds_apart k k' c h =
-    let low = call_kind k (or_cases (k == R_RISCV_CALL) (k == R_RISCV_CALL_PLT) c) in
-    let high = hi_kind k' h in
-    omega (arith, low, high)
+kinds_apart k k' c h = grind (arith, common_steps, call_kind, or_cases, hi_kind)
 
 module _ (elf : Elf) (tabled : List (ℕ × ℕ)) (code : ProgramCode) (is : IsCodeOf elf tabled code)
     (no_fault : IsFree (HasCodeFault elf tabled)) where
@@ -210,21 +183,7 @@ module _ (elf : Elf) (tabled : List (ℕ × ℕ)) (code : ProgramCode) (is : IsC
   -- the pair of a lower part and the upper part of its AUIPC
   upper_to : (q s : Relocation) (hi : ℕ) (target : ℤ) → PcrelLoTo elf q hi target → Contains (relocations elf) s →
       IsTrue (is_pcrel_hi s.kind) → s.place ≡ hi → PcrelHiTo elf s target
-  upper_to q s hi target lower counts is_hi at =
-      of (subst (λ (a : ℕ). PcrelLoTo elf q a target) (sym at) lower)
-    where
-      of : PcrelLoTo elf q s.place target → PcrelHiTo elf s target
-      of l = record {
-        counts = counts;
-        is_hi = is_hi;
-        rd = l.rd;
-        upper = l.upper;
-        auipc = l.auipc;
-        low = q;
-        lower = l.lower;
-        part = l.part;
-        target_is = l.target_is;
-      }
+  upper_to q s hi target lower counts is_hi at = grind (arith, common_steps)
 
   pair_low : (q : Relocation) (hi target : ℕ) → PcrelLoTo elf q hi (pos target) → target ≤ address_end
   pair_low q hi target lower = bounded_of target (λ n. has_upper q hi lower.lower lower.part (λ u.
@@ -267,24 +226,14 @@ module _ (elf : Elf) (tabled : List (ℕ × ℕ)) (code : ProgramCode) (is : IsC
 
   auipc_at : (a : ℕ) (inst : Inst) (n : ℕ) → IsInstAt elf a inst n → (rd : ℕ) (upper : ℤ) → IsInstAt elf a (Auipc rd upper) 4 →
       IsAuipc inst
-  auipc_at a inst n i rd upper is_inst =
-      let f = full_at elf a (Auipc rd upper) is_inst in
-      let g = also_full elf a (Auipc rd upper) inst n f i in
-      auipc_of (halfword_at elf (a + 2) * 2 ^ 16 + halfword_at elf a) rd upper inst f.row g.row
+  auipc_at a inst n i rd upper is_inst = grind (arith, common_steps, full_at, also_full, auipc_of)
 
   low_at : (a : ℕ) (inst : Inst) (n : ℕ) → IsInstAt elf a inst n → (other : Inst) → TakesLower other → IsInstAt elf a other 4 →
       TakesLower inst
-  low_at a inst n i other low is_inst =
-      let f = full_at elf a other is_inst in
-      let g = also_full elf a other inst n f i in
-      low_of (halfword_at elf (a + 2) * 2 ^ 16 + halfword_at elf a) other inst low f.row g.row
+  low_at a inst n i other low is_inst = grind (arith, common_steps, full_at, also_full, low_of)
 
   immediate_low : (kind : ℕ) (inst : Inst) → IsSome (lower_immediate kind inst) → TakesLower inst
-  immediate_low kind inst h = by (lower_immediate kind inst) refl h
-    where
-      by : (o : Option ℤ) → lower_immediate kind inst ≡ o → IsSome o → TakesLower inst
-      by None e h = absurd (cc)
-      by (Some imm) e h = low_immediate kind inst imm e
+  immediate_low kind inst h = grind (arith, common_steps, low_immediate)
 
   role_fits : (p : Placed) → Contains (insts_of code.funcs) p → RoleFits code p.role p.inst
   role_fits p is_in = by (inst_at elf tabled code is p is_in).role

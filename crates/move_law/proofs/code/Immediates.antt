@@ -1,6 +1,7 @@
 -- Which instructions have an opcode; and an AUIPC, a LUI and a JALR are decoded in only one way.
 use Rattle.std.proofs.Common.{◌≡◌, ℕ, ◌+◌, ◌*◌, ◌^◌, Some, Bool, true, false, refl, sym, ◌∙◌, arith, inl, inr, ℤ, pos}
 use Rattle.std.specs.Prelude.{◌==◌, ◌||◌, if◌then◌else◌}
+use Rattle.std.proofs.lemmas.Grind.{common_steps}
 use Rattle.rv_code.specs.isa.Bits.{field, imm_i, imm_s, imm_u}
 use Rattle.rv_code.specs.isa.FullRows.{IsFull}
 use Rattle.rv_code.specs.isa.Action.{action_of}
@@ -196,11 +197,7 @@ low_s (Sd rs1 rs2 imm) z e = tt
 low_s _ z e = absurd (cc)
 
 pub low_immediate : (kind : ℕ) (i : Inst) (imm : ℤ) → lower_immediate kind i ≡ Some imm → TakesLower i
-low_immediate kind i imm e = by (kind == R_RISCV_PCREL_LO12_I || kind == R_RISCV_LO12_I) e
-  where
-    by : (b : Bool) → (if b then immediate_i (action_of i) else immediate_s (action_of i)) ≡ Some imm → TakesLower i
-    by true e = low_i i imm e
-    by false e = low_s i imm e
+low_immediate kind i imm e = grind (arith, common_steps, low_i, low_s)
 
 -- immediates
 
@@ -254,11 +251,7 @@ low_imm w (Sd rs1 rs2 imm) h row = rw row.opcode_is (sym row.imm_is)
 low_imm w _ h row = absurd h
 
 pub low_field_lower : (w : ℕ) → IsLower (low_field w)
-low_field_lower w = by (field w 0 7 == 0x23)
-  where
-    by : (b : Bool) → IsLower (if b then imm_s w else imm_i w)
-    by true = imm_s_lower w
-    by false = imm_i_lower w
+low_field_lower w = grind (arith, common_steps, imm_s_lower, imm_i_lower)
 
 imm_of_i : (i : Inst) (z : ℤ) → immediate_i (action_of i) ≡ Some z → immediate i ≡ z
 imm_of_i (Addi rd rs1 imm) z e = cc
@@ -280,8 +273,4 @@ imm_of_s (Sd rs1 rs2 imm) z e = cc
 imm_of_s _ z e = absurd (cc)
 
 pub imm_of : (kind : ℕ) (i : Inst) (z : ℤ) → lower_immediate kind i ≡ Some z → immediate i ≡ z
-imm_of kind i z e = by (kind == R_RISCV_PCREL_LO12_I || kind == R_RISCV_LO12_I) e
-  where
-    by : (b : Bool) → (if b then immediate_i (action_of i) else immediate_s (action_of i)) ≡ Some z → immediate i ≡ z
-    by true e = imm_of_i i z e
-    by false e = imm_of_s i z e
+imm_of kind i z e = grind (arith, common_steps, imm_of_i, imm_of_s)

@@ -4,6 +4,7 @@ use Rattle.std.proofs.Common.{subst, arith, inl, inr, ◌⊎◌}
 use Rattle.std.specs.Prelude.{if◌then◌else◌, ◌==◌, is_some}
 use Rattle.std.specs.List.{Contains}
 use Rattle.std.proofs.lemmas.Bool.{eq-eqb, eqb-true, ne_eqb}
+use Rattle.std.proofs.lemmas.Grind.{common_steps}
 use Rattle.rv_code.specs.declared.inst.Inst.{Inst}
 use Rattle.rv_code.specs.declared.placed.Placed.{Placed}
 use Rattle.rv_code.specs.declared.placed.Func.{Func}
@@ -26,27 +27,13 @@ pub record FoundAt (funcs : List Func) (a : ℕ) (p : Placed) : Type 0 where
   pub contains : Contains (insts_of funcs) p
 
 pub found_at : (funcs : List Func) (a : ℕ) (p : Placed) → placed_at funcs a ≡ Some p → FoundAt funcs a p
-found_at funcs a p e =
-    let f = find-found (λ q. q.addr == a) (insts_of funcs) p e in
-    record { at = eqb-true p.addr a f.0; contains = f.1 }
+found_at funcs a p e = grind (arith, common_steps, find-found, eqb-true)
 
 -- Instructions of functions.
 
 pub length_is : (memory : ℕ → Option ℕ) (a : ℕ) (i : Inst) (n : ℕ) → IsInstIn memory a i n → length_in memory a ≡ n
-length_is memory a i n (inl d) =
-    let h = d.is_half in
-    let e = d.two_bytes in
-    short (halfword_in memory a) (λ t. h (omega (arith, t))) n e
-  where
-    short : (h : ℕ) → (h % 4 ≡ 3 → ⊥) → (n : ℕ) → n ≡ 2 → (if h % 4 == 3 then 4 else 2) ≡ n
-    short h other n e = rw (ne_eqb (h % 4) 3 other) (sym e)
-length_is memory a i n (inr d) =
-    let h = d.is_full in
-    let e = d.four_bytes in
-    long (halfword_in memory a) (omega (arith, h)) n e
-  where
-    long : (h : ℕ) → h % 4 ≡ 3 → (n : ℕ) → n ≡ 4 → (if h % 4 == 3 then 4 else 2) ≡ n
-    long h is n e = rw is (sym e)
+length_is memory a i n (inl d) = grind (arith, common_steps, ne_eqb)
+length_is memory a i n (inr d) = grind (arith, common_steps)
 
 pub length_of : (elf : Elf) (a : ℕ) (i : Inst) (n : ℕ) → IsInstAt elf a i n → length_at elf a ≡ n
 length_of elf a i n is = length_is (byte_at elf) a i n is

@@ -5,6 +5,7 @@ use Rattle.std.specs.Prelude.{if◌then◌else◌, nat_lt, nat_le, IsTrue, optio
 use Rattle.std.specs.Option.{option_map_or}
 use Rattle.std.proofs.lemmas.Bool.{and_parts, leb-true, cases_lt}
 use Rattle.std.proofs.lemmas.List.{get_or_default, get_or_past}
+use Rattle.std.proofs.lemmas.Grind.{common_steps}
 use Rattle.rv_code.specs.machine.Machine.{little}
 use Rattle.rb_bytes.specs.declared.fault.FaultKind.TheVariants.{HighAddress, ExecSegments}
 use Rattle.elf_image.specs.declared.elf.Elf.{Elf}
@@ -29,8 +30,7 @@ pub executable_read-is : (elf : Elf) → IsElfOf elf.file.now elf → executable
 executable_read-is elf is = λ i. record { file = elf.file.now; segments = is.segments i; entry = is.entry i }
 
 pub accepted_executable : (elf : Elf) (code : ProgramCode) → IsAcceptedCode elf code → IsSoundExecutable (executable_read elf)
-accepted_executable elf code accepted =
-    record { bytes = accepted.bytes; is = executable_read-is elf accepted.read; sound = accepted.sound }
+accepted_executable elf code accepted = grind (arith, common_steps, executable_read-is)
 
 -- an address that is loaded with a flag has a byte
 pub loaded_byte : (x : Executable) (flag a : ℕ) → is_loaded_with flag x.segments a ≡ true →
@@ -43,10 +43,7 @@ loaded_byte x flag a is = by (segment_of x.segments a) is
     by (Some p) e = (byte_of x.file a p, refl)
 
 pub stack_high : (a : ℕ) → in_stack a ≡ true → a < address_end → ⊥
-stack_high a e low =
-    let parts = and_parts (nat_le (stack_end - stack_size) a) (nat_lt a stack_end) e in
-    let high : stack_end - stack_size ≤ a = leb-true (stack_end - stack_size) a parts.0 in
-    omega (arith, high, low)
+stack_high a e low = grind (arith, common_steps, and_parts, leb-true)
 
 module _ (x : Executable) (sound : IsSoundExecutable x) where
   segments_are : x.segments ≡ segments_of x.file
@@ -67,11 +64,7 @@ module _ (x : Executable) (sound : IsSoundExecutable x) where
       ]
 
   pub byte_low : (a byte : ℕ) → memory_of x a ≡ Some byte → a < address_end
-  byte_low a byte e = by (segment_of x.segments a) refl e
-    where
-      by : (o : Option Segment) → segment_of x.segments a ≡ o → option_map (byte_of x.file a) o ≡ Some byte → a < address_end
-      by None k h = absurd (cc)
-      by (Some p) k h = segment_low a p k
+  byte_low a byte e = grind (arith, common_steps, segment_low)
 
   pub load_once : LoadOnce x.segments
   load_once =

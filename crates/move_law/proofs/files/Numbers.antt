@@ -2,6 +2,7 @@
 use Rattle.std.proofs.Common.{◌≡◌, ℕ, zero, suc, ◌+◌, ◌*◌, ◌<◌, List, [], ◌∷◌, length, Option, Some, None, refl, sym, ap, ◌∙◌}
 use Rattle.std.proofs.Common.{subst, arith, get_or}
 use Rattle.std.specs.Prelude.{option_map}
+use Rattle.std.proofs.lemmas.Grind.{common_steps}
 use Rattle.rv_code.specs.machine.Machine.{little}
 use Rattle.byteorder.specs.Endian.{little_from}
 use Rattle.rv_code.specs.machine.MemoryNumbers.{bytes_in, and_more, number_in}
@@ -13,8 +14,7 @@ pub record BytesAt (memory : ℕ → Option ℕ) (a n : ℕ) (bs : List ℕ) : T
 
 pub bytes_at_is : (memory : ℕ → Option ℕ) (a n : ℕ) (bs : List ℕ) → bytes_in memory a n ≡ Some bs → BytesAt memory a n bs
 unfolding bytes_in
-bytes_at_is memory a zero bs e =
-    let same : [] ≡ bs = cc in record { length_is = ap length (sym same); each = λ i h. absurd (omega (arith, h)) }
+bytes_at_is memory a zero bs e = grind (arith, common_steps)
 bytes_at_is memory a (suc n) bs e =
     by (memory a) refl (bytes_in memory (a + 1) n) refl e (λ rest k. bytes_at_is memory (a + 1) n rest k)
   where

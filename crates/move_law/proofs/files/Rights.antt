@@ -6,6 +6,7 @@ use Rattle.std.specs.Prelude.{if◌then◌else◌, ◌==◌, ◌&&◌, ◌||◌,
 use Rattle.std.specs.List.{Contains, filter, fold}
 use Rattle.std.specs.Option.{option_map_or}
 use Rattle.std.proofs.lemmas.Bool.{and_parts, and_from, eq-eqb, leb-true, ltb-true, le-leb, lt-ltb, cases_lt}
+use Rattle.std.proofs.lemmas.Grind.{common_steps}
 use Rattle.elf_image.specs.declared.segment.Segment.{Segment}
 use Rattle.elf_image.specs.declared.segment.TheConstants.{PF_R, PF_W}
 use Rattle.elf_image.specs.memory.Image.{is_load, has_memory, has_flag, end_of, loads_address, LoadOnce, segment_of}
@@ -68,12 +69,7 @@ reached f from (p ∷ ps) = by (f p) refl (reached f (max from (end_of p)) ps) (
 least_from : (f : Segment → Bool) (h : Segment → ℕ) (from : ℕ) (segments : List Segment) →
     fold min from (map h (filter f segments)) ≤ from
 least_from f h from [] = omega arith
-least_from f h from (p ∷ ps) = by (f p) (least_from f h (min from (h p)) ps) (least_from f h from ps)
-  where
-    by : (b : Bool) → fold min (min from (h p)) (map h (filter f ps)) ≤ min from (h p) →
-        fold min from (map h (filter f ps)) ≤ from → fold min from (map h (cond b (p ∷ filter f ps) (filter f ps))) ≤ from
-    by false one two = two
-    by true one two = omega (arith, one)
+least_from f h from (p ∷ ps) = grind (arith, common_steps, least_from f h (min from (h p)) ps, least_from f h from ps)
 
 least : (f : Segment → Bool) (h : Segment → ℕ) (from : ℕ) (segments : List Segment) (q : Segment) → Contains segments q →
     f q ≡ true → fold min from (map h (filter f segments)) ≤ h q

@@ -4,6 +4,7 @@ use Rattle.std.proofs.Common.{ap, ◌∙◌, arith, inl, inr, get_or, append_ass
 use Rattle.std.specs.Prelude.{replicate, flat_map}
 use Rattle.std.proofs.lemmas.Bool.{cases_lt}
 use Rattle.std.proofs.lemmas.List.{get_or_append_left, get_or-append_right, length-append}
+use Rattle.std.proofs.lemmas.Grind.{common_steps}
 use Rattle.rv_code.specs.machine.Machine.{low_bytes}
 use Rattle.elf_image.specs.declared.segment.TheConstants.{PHDR_SIZE}
 use Rattle.elf_image.specs.file.Header.{e_entry, e_phnum}
@@ -132,16 +133,11 @@ entry_on_stack args t n e i h =
 
 pub room : (args : List (List ℕ)) → stack_end - stack_size ≤ stack_pointer args →
     (stack_pointer args + 8 * (count args + 17) ≤ stack_end) × (0 < stack_pointer args)
-room args h = (rooms (texts_address args) (8 * (count args + 17)) (omega arith) h, omega (arith, h))
-  where
-    rooms : (t n : ℕ) → t ≤ stack_end → stack_end - stack_size ≤ (t - n) / 16 * 16 → (t - n) / 16 * 16 + n ≤ stack_end
-    rooms t n h k = omega (arith, h, k)
+room args h = grind (arith, common_steps)
 
 four_lists : (a b c d : List ℕ) → a ++ b ++ c ++ d ≡ a ++ (b ++ c ++ d)
 four_lists a b c d = grind (arith, append_assoc)
 
 pub stack_is : (file : List ℕ) (args : List (List ℕ)) →
     stack_bytes file args ≡ stack_of args (table_address file) (e_phnum file) (e_entry file)
-stack_is file args =
-    four_lists (start_bytes file args)
-    (replicate (texts_address args - stack_pointer args - length (start_bytes file args)) 0) (texts args) random_bytes
+stack_is file args = grind (arith, common_steps, four_lists)

@@ -6,6 +6,7 @@ use Rattle.std.specs.Int.{int_rem_euclid}
 use Rattle.std.proofs.lemmas.Int.{int_rem_euclid_is, ints}
 use Rattle.std.proofs.lemmas.List.{get_or_default}
 use Rattle.std.proofs.lemmas.List.Elements.{All-head, All-tail}
+use Rattle.std.proofs.lemmas.Grind.{common_steps}
 use Rattle.rv_code.specs.declared.cell.CodeCell.{CodeCell}
 use Rattle.rv_code.specs.declared.cell.CellKind.{CellKind}
 use Rattle.rv_code.specs.declared.cell.CellKind.TheVariants as kind
@@ -62,35 +63,17 @@ number_small x sound a n v e = by (bytes_in (memory_of x) a n) refl e
         rw (sym same, sym len) s
 
 small_mod : (v w : ℕ) → (w ≡ 4) ⊎ (w ≡ 8) → v < 256 ^ w → v ≡ v % 256 ^ w
-small_mod v w (inl e) h = let l : v < 256 ^ 4 = rw e at h in rw e (mod_4 v l)
-  where
-    mod_4 : (v : ℕ) → v < 256 ^ 4 → v ≡ v % 256 ^ 4
-    mod_4 v l = omega (arith, l)
-small_mod v w (inr e) h = let l : v < 256 ^ 8 = rw e at h in rw e (mod_8 v l)
-  where
-    mod_8 : (v : ℕ) → v < 256 ^ 8 → v ≡ v % 256 ^ 8
-    mod_8 v l = omega (arith, l)
+small_mod v w (inl e) h = grind (arith, common_steps)
+small_mod v w (inr e) h = grind (arith, common_steps)
 
 -- a number that holds a difference is this difference, reduced to its width
 of_32 : (x to from : ℕ) → x < 2 ^ 32 → to ≤ address_end → from ≤ address_end →
     int_rem_euclid (pos to -ℤ pos from) (pos (2 ^ 32)) ≡ pos (x % 2 ^ 32) → x ≡ unsigned64 (distance to from) % 256 ^ 4
-of_32 x to from h k l e =
-    let sum : (pos to -ℤ pos from) +ℤ pos (1 * 2 ^ 32) ≡ pos (to + 2 ^ 32 - from) =
-    antisym ((pos to -ℤ pos from) +ℤ pos (1 * 2 ^ 32)) (pos (to + 2 ^ 32 - from))
-    (omega (arith, ints, k, l)) (omega (arith, ints, k, l)) in
-    let is = int_rem_euclid_is (pos to -ℤ pos from) (pos (2 ^ 32)) (2 ^ 32) 1 (to + 2 ^ 32 - from) (omega arith) refl sum in
-    let same : (to + 2 ^ 32 - from) % 2 ^ 32 ≡ x % 2 ^ 32 = same_pos ((to + 2 ^ 32 - from) % 2 ^ 32) (x % 2 ^ 32) (sym is ∙ e) in
-    omega (arith, ints, h, k, l, same)
+of_32 x to from h k l e = grind (arith, common_steps, antisym, ints, int_rem_euclid_is, same_pos)
 
 of_64 : (x to from : ℕ) → x < 2 ^ 64 → to ≤ address_end → from ≤ address_end →
     int_rem_euclid (pos to -ℤ pos from) (pos (2 ^ 64)) ≡ pos (x % 2 ^ 64) → x ≡ unsigned64 (distance to from) % 256 ^ 8
-of_64 x to from h k l e =
-    let sum : (pos to -ℤ pos from) +ℤ pos (1 * 2 ^ 64) ≡ pos (to + 2 ^ 64 - from) =
-    antisym ((pos to -ℤ pos from) +ℤ pos (1 * 2 ^ 64)) (pos (to + 2 ^ 64 - from))
-    (omega (arith, ints, k, l)) (omega (arith, ints, k, l)) in
-    let is = int_rem_euclid_is (pos to -ℤ pos from) (pos (2 ^ 64)) (2 ^ 64) 1 (to + 2 ^ 64 - from) (omega arith) refl sum in
-    let same : (to + 2 ^ 64 - from) % 2 ^ 64 ≡ x % 2 ^ 64 = same_pos ((to + 2 ^ 64 - from) % 2 ^ 64) (x % 2 ^ 64) (sym is ∙ e) in
-    omega (arith, ints, h, k, l, same)
+of_64 x to from h k l e = grind (arith, common_steps, antisym, ints, int_rem_euclid_is, same_pos)
 
 first_same : (z w z' w' : ℤ) → Difference z w ≡ Difference z' w' → z ≡ z'
 first_same z w z' w' e = cc

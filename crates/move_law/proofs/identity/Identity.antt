@@ -4,6 +4,7 @@ use Rattle.std.proofs.Common.{◌∙◌, subst, arith, inr, ℤ}
 use Rattle.std.specs.Prelude.{AllPairs, Contains, IfSome, IsTrue, find, if◌then◌else◌, is_some, nat_le, nat_lt, option_map, unwrap_or}
 use Rattle.std.proofs.lemmas.Bool.{and_parts, eqb-true, leb-true, ltb-true}
 use Rattle.std.proofs.lemmas.List.Elements.{All-map}
+use Rattle.std.proofs.lemmas.Grind.{common_steps}
 use Rattle.rv_code.specs.declared.action.Action.{Action}
 use Rattle.rv_code.specs.declared.action.Action.TheVariants.{Branch, Compute, Jump, JumpTo, Load, Store, SystemCall, Breakpoint}
 use Rattle.rv_code.specs.declared.action.Action.TheVariants.{Upper, UpperPc}
@@ -228,12 +229,7 @@ module _ (elf : Elf) (code : ProgramCode) (tight : Bool) (accepted : IsAcceptedC
   -- control that is at an address gets there
   weaker_next : (p : Placed) (from : ℕ) → GetsToNext (identity elf code tight) Same p from →
       GetsToNext (identity elf code tight) (Goes (executable_read elf)) p from
-  weaker_next p from h = by (next (identity elf code tight) p) h
-    where
-      by : (o : Option ℕ) → IfSome o (λ a. from ≡ out (identity elf code tight) a) →
-          IfSome o (λ a. Goes (executable_read elf) from (out (identity elf code tight) a))
-      by None h = tt
-      by (Some a) h = stays h
+  weaker_next p from h = grind (arith, common_steps)
 
   weaker : (p : Placed) → Contains (insts_of code.funcs) p → (a : Action) → action_at p ≡ a →
       KeepsAction (identity elf code tight) (Goes (executable_read elf)) p a

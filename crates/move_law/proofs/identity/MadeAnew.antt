@@ -2,6 +2,7 @@
 use Rattle.std.proofs.Common.{◌≡◌, ◌≢◌, ℕ, ◌+◌, ◌*◌, ◌^◌, List, refl, sym, ap, ◌∙◌, subst, arith, inl, inr, ◌⊎◌, ℤ, pos}
 use Rattle.std.specs.Prelude.{Contains}
 use Rattle.std.proofs.lemmas.Int.{ints}
+use Rattle.std.proofs.lemmas.Grind.{common_steps}
 use Rattle.rv_code.specs.declared.inst.Inst.{Inst}
 use Rattle.rv_code.specs.declared.inst.Inst.TheVariants.{Lui, Auipc, Jalr}
 use Rattle.rv_code.specs.declared.placed.Placed.{Placed}
@@ -38,45 +39,27 @@ set_same : (i : Inst) (z : ℤ) → z ≡ immediate i → with_immediate i z ≡
 set_same i z e = ap (with_immediate i) e ∙ with_same i
 
 zero_upper : (a : ℕ) → hi20 (distance a a) ≡ pos 0
-zero_upper a =
-    upper_is a a (pos 0) (pos 0) (record { low = omega (arith, ints); high = omega (arith, ints) }) (ap pos (omega arith))
+zero_upper a = grind (arith, common_steps, upper_is, ints)
 
 -- The immediate of an instruction, by another way of reading its bytes.
 
 module _ (elf : Elf) where
   auipc_is : (a : ℕ) (i : Inst) (n : ℕ) → IsInstAt elf a i n → (rd : ℕ) (u : ℤ) → IsInstAt elf a (Auipc rd u) 4 →
       u ≡ immediate i
-  auipc_is a i n at rd u full =
-      let f = full_at elf a (Auipc rd u) full in
-      let g = also_full elf a (Auipc rd u) i n f at in
-      let w : ℕ = halfword_at elf (a + 2) * 2 ^ 16 + halfword_at elf a in
-      auipc_imm w (Auipc rd u) tt f.row ∙ sym (auipc_imm w i (auipc_of w rd u i f.row g.row) g.row)
+  auipc_is a i n at rd u full = grind (arith, common_steps, full_at, also_full, auipc_imm, auipc_of)
 
   lui_is : (a : ℕ) (i : Inst) (n : ℕ) → IsInstAt elf a i n → (rd : ℕ) (u : ℤ) → IsInstAt elf a (Lui rd u) 4 → u ≡ immediate i
-  lui_is a i n at rd u full =
-      let f = full_at elf a (Lui rd u) full in
-      let g = also_full elf a (Lui rd u) i n f at in
-      let w : ℕ = halfword_at elf (a + 2) * 2 ^ 16 + halfword_at elf a in
-      lui_imm w (Lui rd u) tt f.row ∙ sym (lui_imm w i (lui_of w rd u i f.row g.row) g.row)
+  lui_is a i n at rd u full = grind (arith, common_steps, full_at, also_full, lui_imm, lui_of)
 
   low_is : (a : ℕ) (i : Inst) (n : ℕ) → IsInstAt elf a i n → (j : Inst) → TakesLower j → IsInstAt elf a j 4 →
       immediate j ≡ immediate i
-  low_is a i n at j low full =
-      let f = full_at elf a j full in
-      let g = also_full elf a j i n f at in
-      let w : ℕ = halfword_at elf (a + 2) * 2 ^ 16 + halfword_at elf a in
-      low_imm w j low f.row ∙ sym (low_imm w i (low_of w j i low f.row g.row) g.row)
+  low_is a i n at j low full = grind (arith, common_steps, full_at, also_full, low_imm, low_of)
 
   low_small : (a : ℕ) (j : Inst) → TakesLower j → IsInstAt elf a j 4 → IsLower (immediate j)
-  low_small a j low full =
-      let f = full_at elf a j full in
-      let w : ℕ = halfword_at elf (a + 2) * 2 ^ 16 + halfword_at elf a in
-      subst IsLower (sym (low_imm w j low f.row)) (low_field_lower w)
+  low_small a j low full = grind (arith, common_steps, full_at, low_imm, low_field_lower)
 
   part_small : (q : Relocation) (hi : ℕ) (imm : ℤ) → PcrelLo elf q hi imm → IsLower imm
-  part_small q hi imm part =
-      subst IsLower (imm_of q.kind part.inst imm part.immediate)
-      (low_small q.place part.inst (low_immediate q.kind part.inst imm part.immediate) part.there.has.is_inst)
+  part_small q hi imm part = grind (arith, common_steps, imm_of, immediate, low_small, low_immediate)
 
   jalr_small : (q : Relocation) (c : CallPair elf q) → IsLower c.lower
   jalr_small q c = low_small (q.place + 4) (Jalr c.link c.base c.lower) tt c.jalr.is_inst

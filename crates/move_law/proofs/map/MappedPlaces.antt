@@ -5,6 +5,7 @@ use Rattle.std.specs.Prelude.{nat_le, nat_lt, IsTrue, IsSomeAnd, option_map, unw
 use Rattle.std.specs.List.{Contains, find}
 use Rattle.std.proofs.lemmas.Bool.{and_from, eqb-true, eq-eqb, le-leb, lt-ltb}
 use Rattle.std.proofs.lemmas.List.Elements.{All-contains}
+use Rattle.std.proofs.lemmas.Grind.{common_steps}
 use Rattle.rv_code.specs.declared.inst.Inst.{Inst}
 use Rattle.rv_code.specs.declared.inst.Inst.TheVariants.{Jal}
 use Rattle.rv_code.specs.declared.action.Action.{Action}
@@ -125,9 +126,7 @@ module _ (r : Rewrite) (keeps : KeepsCode r) where
     pub span : HasSpan a (width_at r.output (out r a))
 
   pub in_span : (p : Placed) (inst : Inst) → HasInSpan r p inst → IsThere p.addr
-  in_span p inst h =
-      let (k, s, within, is, (e, fits)) = h.inside in
-      record { inst = inst; has = h.has; span = record { span = s; contains = (k, within, is); input = e; fits = fits } }
+  in_span p inst h = grind (arith, common_steps)
 
   pub call_there : (p : Placed) → Contains (insts_of r.code.funcs) p → is_call (action_at p) ≡ true → IsThere p.addr
   call_there p contains call =

@@ -10,6 +10,7 @@ use Rattle.std.specs.Int.Bits.{xor_self, xor_lt}
 use Rattle.std.proofs.lemmas.Bool.{ltb-true, ltb-false, cases_lt}
 use lib.Bits.{xor_assoc, xor_zero_r}
 use Rattle.std.proofs.lemmas.List.Elements.{All-contains}
+use Rattle.std.proofs.lemmas.Grind.{common_steps}
 use Rattle.rv_code.specs.declared.action.Action.{Action}
 use Rattle.rv_code.specs.declared.action.Action.TheVariants.{UpperPc}
 use Rattle.rv_code.specs.declared.action.Extension.TheVariants.{Signed32}
@@ -63,20 +64,7 @@ pub record IsShort (n : ℕ) : Type 0 where
   pub near : (n + 2 ^ 31) % 2 ^ 64 < 2 ^ 32
 
 short_same : (n : ℕ) → IsShort n → extended Signed32 (n % 2 ^ 32) ≡ n
-short_same n h = by (nat_lt (n % 2 ^ 32) (2 ^ 31)) refl
-  where
-    by : (b : Bool) → nat_lt (n % 2 ^ 32) (2 ^ 31) ≡ b →
-        unsigned64 (if b then pos (n % 2 ^ 32) else negsuc (2 ^ 32 - suc (n % 2 ^ 32))) ≡ n
-    by true e =
-        let fits = h.fits in
-        let near = h.near in
-        let l : n % 2 ^ 32 < 2 ^ 31 = ltb-true (n % 2 ^ 32) (2 ^ 31) e in
-        omega (arith, fits, near, l)
-    by false e =
-        let fits = h.fits in
-        let near = h.near in
-        let l : 2 ^ 31 ≤ n % 2 ^ 32 = ltb-false (n % 2 ^ 32) (2 ^ 31) e in
-        omega (arith, fits, near, l)
+short_same n h = grind (arith, common_steps, ltb-true, ltb-false)
 
 low_short : (n : ℕ) → n < 2 ^ 31 → IsShort n
 low_short n h = record { fits = omega (arith, h); near = omega (arith, h) }
@@ -89,15 +77,10 @@ rest_within (negsuc a) = (omega (arith, ints), omega (arith, ints))
 upper_of : (t o : ℕ) (z : ℤ) → t ≤ address_end → o ≤ address_end → Within (2 ^ 21) z →
     pos 0 ≤ℤ (distance t o +ℤ pos 0x800 -ℤ pos 4096 *ℤ z) → (distance t o +ℤ pos 0x800 -ℤ pos 4096 *ℤ z) ≤ℤ pos 4095 →
     IsShort (plus o (unsigned64 (pos 4096 *ℤ z)))
-upper_of t o z h k w low high =
-    let wl = w.low in
-    let wh = w.high in record { fits = omega arith; near = omega (arith, ints, h, k, wl, wh, low, high) }
+upper_of t o z h k w low high = grind (arith, common_steps, ints)
 
 upper_short : (t o : ℕ) → t ≤ address_end → o ≤ address_end → IsShort (plus o (hi20_value (distance t o)))
-upper_short t o h k =
-    let rest = rest_within (distance t o +ℤ pos 0x800) in
-    upper_of t o (hi20 (distance t o)) h k
-    (upper_within (distance t o) (distance_within t o (omega (arith, h)) (omega (arith, k)))) rest.0 rest.1
+upper_short t o h k = grind (arith, common_steps, rest_within, upper_of, upper_within, distance_within)
 
 distance_short : (t o : ℕ) → t ≤ address_end → o ≤ address_end → IsShort (unsigned64 (distance t o))
 distance_short t o h k = record { fits = omega (arith, ints, h, k); near = omega (arith, ints, h, k) }
@@ -128,25 +111,13 @@ is_upper (Auipc rd imm) h = tt
 is_upper _ h = absurd h
 
 signed8_fits : (x : ℕ) → x < 256 → unsigned64 (cast_signed w8 x) < 2 ^ 64
-signed8_fits x h = by (nat_lt x 128) refl
-  where
-    by : (b : Bool) → nat_lt x 128 ≡ b → unsigned64 (if b then pos x else negsuc (256 - suc x)) < 2 ^ 64
-    by true e = omega (arith, h)
-    by false e = omega (arith, h)
+signed8_fits x h = grind (arith, common_steps)
 
 signed16_fits : (x : ℕ) → x < 65536 → unsigned64 (cast_signed w16 x) < 2 ^ 64
-signed16_fits x h = by (nat_lt x 32768) refl
-  where
-    by : (b : Bool) → nat_lt x 32768 ≡ b → unsigned64 (if b then pos x else negsuc (65536 - suc x)) < 2 ^ 64
-    by true e = omega (arith, h)
-    by false e = omega (arith, h)
+signed16_fits x h = grind (arith, common_steps)
 
 signed32_fits : (x : ℕ) → x < 4294967296 → unsigned64 (cast_signed w32 x) < 2 ^ 64
-signed32_fits x h = by (nat_lt x 2147483648) refl
-  where
-    by : (b : Bool) → nat_lt x 2147483648 ≡ b → unsigned64 (if b then pos x else negsuc (4294967296 - suc x)) < 2 ^ 64
-    by true e = omega (arith, h)
-    by false e = omega (arith, h)
+signed32_fits x h = grind (arith, common_steps)
 
 -- Named addresses, in the output.
 

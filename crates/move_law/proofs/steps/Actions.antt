@@ -43,6 +43,7 @@ use Rattle.move_law.proofs.values.HiLoSums.{upper_of_distance_is, upper_of_numbe
 use Rattle.move_law.proofs.steps.Premises.{UpperFits, LowerFits, Fits}
 use Rattle.rv_code.specs.isa.AddressParts.{TakesLower}
 use Rattle.std.proofs.lemmas.Option.{same_Some}
+use Rattle.std.proofs.lemmas.Grind.{common_steps}
 use Rattle.rb_bytes.proofs.ListLemmas.{if_found}
 
 -- the action isn't a branch or a JAL, and a store has a size that an instruction can have
@@ -78,24 +79,12 @@ is_abs-true a (Sym (Apart by p q)) e = absurd (cc)
 -- the target that a pair of instructions gives
 pair_stands : (r : Rewrite) (hi target x : ℕ) (v : Value) → LowerFits r hi target → StandsFor r v x → is_hi hi v ≡ true →
     StandsFor r (value_of r.code.funcs target) (plus x (unsigned64 (lo12 (distance (out r target) (out r hi)))))
-pair_stands r hi target x v fits h e =
-    let h' : StandsFor r (Sym (Hi hi)) x = subst (λ (v : Value). StandsFor r v x) (is_hi-true hi v e) h in
-    let same = fits.same h'.given in
-    let upper : x ≡ plus (out r hi) (hi20_value (distance (out r target) (out r hi))) = h'.number
-    ∙ ap (λ (t : ℕ). plus (out r hi) (hi20_value (distance (out r t) (out r hi)))) same.0 in
-    let sum : plus x (unsigned64 (lo12 (distance (out r target) (out r hi)))) ≡ out r target =
-    rw upper (distance_sum (out r target) (out r hi) fits.label.fits same.1) in
-    at_number r (value_of r.code.funcs target) (out r target)
-    (plus x (unsigned64 (lo12 (distance (out r target) (out r hi))))) (sym sum) (label_stands r target fits.label)
+pair_stands r hi target x v fits h e = grind (arith, common_steps, is_hi-true, distance_sum, at_number, label_stands)
 
 absolute_stands : (r : Rewrite) (target x : ℕ) (v : Value) → IsGivenPointer r (Code target) → Label r target →
     StandsFor r v x → is_abs target v ≡ true →
     StandsFor r (Sym (Points (Code target))) (plus x (unsigned64 (lo12 (pos (out r target)))))
-absolute_stands r target x v given label h e =
-    let h' : StandsFor r (Sym (Abs target)) x = subst (λ (v : Value). StandsFor r v x) (is_abs-true target v e) h in
-    let sum : plus x (unsigned64 (lo12 (pos (out r target)))) ≡ out r target =
-    rw h'.number (number_sum (out r target) label.fits) in
-    record { value = tt; given = given; number = sum }
+absolute_stands r target x v given label h e = grind (arith, common_steps, is_abs-true, number_sum)
 
 -- the new immediate of a lower part
 abbrev new_lower : Rewrite → Role → ℤ
@@ -114,15 +103,9 @@ LowRole r _ = ⊥
 -- the result of a lower part and its base
 joined_stands : (r : Rewrite) (part : Role) (base : Value) (x : ℕ) → LowRole r part → StandsFor r base x →
     IfSome (joined r.code.funcs part base) (λ v. StandsFor r v (plus x (unsigned64 (new_lower r part))))
-joined_stands r (role.Lo hi target) base x fits h =
-    only_stands r (is_hi hi base) (value_of r.code.funcs target)
-    (plus x (unsigned64 (lo12 (distance (out r target) (out r hi))))) (pair_stands r hi target x base fits h)
-joined_stands r (role.CallLo hi target) base x fits h =
-    only_stands r (is_hi hi base) (value_of r.code.funcs target)
-    (plus x (unsigned64 (lo12 (distance (out r target) (out r hi))))) (pair_stands r hi target x base fits h)
-joined_stands r (role.AbsLo target) base x fits h =
-    only_stands r (is_abs target base) (Sym (Points (Code target))) (plus x (unsigned64 (lo12 (pos (out r target)))))
-    (absolute_stands r target x base fits.0 fits.1 h)
+joined_stands r (role.Lo hi target) base x fits h = grind (arith, common_steps, only_stands, pair_stands)
+joined_stands r (role.CallLo hi target) base x fits h = grind (arith, common_steps, only_stands, pair_stands)
+joined_stands r (role.AbsLo target) base x fits h = grind (arith, common_steps, only_stands, absolute_stands)
 joined_stands r role.Plain base x fits h = tt
 joined_stands r (role.Hi target) base x fits h = tt
 joined_stands r (role.CallHi target) base x fits h = tt
@@ -205,10 +188,7 @@ module _ (r : Rewrite) (L : ℕ → ℕ → Type 0) (symbols : Symbols r) (space
       gives_follows r L s u next from rd (unsigned64 imm * 4096 % 2 ^ 64) (Num (unsigned64 imm * 4096 % 2 ^ 64)) None rel
       (leads tt) (λ k e. number_stands r (unsigned64 imm * 4096 % 2 ^ 64))
   plain_arm (UpperPc rd imm) plain leads saves = tt
-  plain_arm (Load e rd rs1 imm) plain leads saves =
-      loads r L symbols spaces s u rel next from (leads tt) e rd (address u rs1 (unsigned64 imm))
-      (place r.code.funcs role.Plain (s.registers rs1) (unsigned64 imm))
-      (place_plain r (s.registers rs1) (u.registers rs1) (unsigned64 imm) (rel.registers rs1))
+  plain_arm (Load e rd rs1 imm) plain leads saves = grind (arith, common_steps, loads, place_plain)
   plain_arm (Store n rs1 rs2 imm) plain leads saves =
       stores r L symbols spaces s u rel next from (leads tt) n (address u rs1 (unsigned64 imm)) (u.registers rs2)
       (s.registers rs2) (place r.code.funcs role.Plain (s.registers rs1) (unsigned64 imm)) plain (rel.registers rs2)

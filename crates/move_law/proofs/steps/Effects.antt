@@ -32,6 +32,7 @@ use Rattle.move_law.proofs.values.StoredValues.{IsSize, bytes_alike, numbers_ali
 use Rattle.move_law.proofs.steps.Outcomes.{SameSpaces, Follows, needs_found, checks_follows, stored_data, reads_alike, reads_can}
 use Rattle.move_law.proofs.steps.Outcomes.{writes_can, gives_follows, fixed_not_written, break_start_same, break_bound_same, lt_le}
 use Rattle.std.proofs.lemmas.Option.{same_Some}
+use Rattle.std.proofs.lemmas.Grind.{common_steps}
 use Rattle.rb_bytes.proofs.ListLemmas.{if_found, taken_less}
 
 -- the number of a value that is a number
@@ -47,8 +48,7 @@ length_bytes memory a (suc n) = ap suc (length_bytes memory (plus a 1) n)
 
 returns_follows : (r : Rewrite) (L : ℕ → ℕ → Type 0) (s : SymState) (u : ByteState) (next from : ℕ) (e g : Event) →
     RelatedData r s u → RelatedPc r L next from → e ≡ g → Follows r L (symbol.returns s next e) (byte.returns u from g)
-returns_follows r L s u next from e g rel leads same =
-    rw same (gives_follows r L s u next from a0 g.result (Num g.result) (Some g) rel leads (λ k z. number_stands r g.result))
+returns_follows r L s u next from e g rel leads same = grind (arith, common_steps, gives_follows, number_stands)
 
 -- bytes of the input are put into a buffer
 read_data : (r : Rewrite) → SameSpaces r → (s : SymState) (u : ByteState) → RelatedData r s u →
@@ -84,12 +84,7 @@ had true w x true false true f h = refl
 had false w x true false true f h = refl
 
 not_gained : (p a to : ℕ) → (nat_le p a && nat_lt a to) ≡ false → nat_lt a to ≡ true → nat_lt a p ≡ true
-not_gained p a to e h =
-    elim (cases_lt a p) [
-      | inl less ↦ lt-ltb a p less
-      | inr more ↦ absurd (let g : (nat_le p a && nat_lt a to) ≡ true =
-          and_from (nat_le p a) (nat_lt a to) (le-leb p a more) h in cc)
-    ]
+not_gained p a to e h = grind (arith, common_steps, cases_lt, lt-ltb, and_from, le-leb)
 
 -- the break moves
 break_data : (r : Rewrite) → SameSpaces r → (s : SymState) (u : ByteState) → RelatedData r s u → (to : ℕ) →
@@ -219,17 +214,11 @@ module _ (r : Rewrite) (L : ℕ → ℕ → Type 0) (symbols : Symbols r) (space
 
   pub argument : (i : ℕ) (rest : ℕ → SymOutcome) (o : ByteOutcome) →
       ((n : ℕ) → u.registers i ≡ n → Follows r L (rest n) o) → Follows r L (symbol.argument s i rest) o
-  argument i rest o f =
-      needs_found r L s reason.CallArg (number (s.registers i)) rest o
-      (λ n e. f n (number_is r (s.registers i) (u.registers i) n (rel.registers i) e))
+  argument i rest o f = grind (arith, common_steps, needs_found, number_is)
 
   refuses : (n file at size : ℕ) → u.registers a0 ≡ file → u.registers a1 ≡ at → u.registers a2 ≡ size →
       Follows r L (symbol.refuses_file s next n file at size) (byte.refuses_file u from n)
-  refuses n file at size e0 e1 e2 =
-      returns_follows r L s u next from (record { number = n; used = file ∷ at ∷ size ∷ []; moved = []; result = bad_file })
-      (record { number = n; used = u.registers a0 ∷ u.registers a1 ∷ u.registers a2 ∷ []; moved = []; result = bad_file })
-      rel leads
-      (rw (e0, e1, e2) refl)
+  refuses n file at size e0 e1 e2 = grind (arith, common_steps, returns_follows)
 
   reads_input : (at size : ℕ) → u.registers a1 ≡ at → u.registers a2 ≡ size →
       Follows r L (symbol.reads_input s next at size (take (min size most_moved) s.input))
@@ -258,13 +247,7 @@ module _ (r : Rewrite) (L : ℕ → ℕ → Type 0) (symbols : Symbols r) (space
 
   read_call : (file at size : ℕ) → u.registers a0 ≡ file → u.registers a1 ≡ at → u.registers a2 ≡ size →
       Follows r L (symbol.read_call s next file at size) (byte.read_call u from (u.registers a0 == 0))
-  read_call file at size e0 e1 e2 = cases (file == 0) (ap (λ (n : ℕ). n == 0) e0)
-    where
-      cases : (t : Bool) → (u.registers a0 == 0) ≡ t →
-          Follows r L (if t then symbol.reads_input s next at size (take (min size most_moved) s.input)
-          else symbol.refuses_file s next 63 file at size) (byte.read_call u from (u.registers a0 == 0))
-      cases true e = rw e (reads_input at size e1 e2)
-      cases false e = rw e (refuses 63 file at size e0 e1 e2)
+  read_call file at size e0 e1 e2 = grind (arith, common_steps, reads_input, refuses)
 
   writes_output : (file at size : ℕ) → u.registers a0 ≡ file → u.registers a1 ≡ at → u.registers a2 ≡ size →
       Follows r L (symbol.writes_output s next file at size (memory_bytes s.memory at (min size most_moved)))
@@ -287,25 +270,16 @@ module _ (r : Rewrite) (L : ℕ → ℕ → Type 0) (symbols : Symbols r) (space
 
   write_call : (file at size : ℕ) → u.registers a0 ≡ file → u.registers a1 ≡ at → u.registers a2 ≡ size →
       Follows r L (symbol.write_call s next file at size) (byte.write_call u from (u.registers a0 == 1 || u.registers a0 == 2))
-  write_call file at size e0 e1 e2 = cases (file == 1 || file == 2) (ap (λ (n : ℕ). n == 1 || n == 2) e0)
-    where
-      cases : (t : Bool) → (u.registers a0 == 1 || u.registers a0 == 2) ≡ t →
-          Follows r L (if t then symbol.writes_output s next file at size (memory_bytes s.memory at (min size most_moved))
-          else symbol.refuses_file s next 64 file at size) (byte.write_call u from (u.registers a0 == 1 || u.registers a0 == 2))
-      cases true e = rw e (writes_output file at size e0 e1 e2)
-      cases false e = rw e (refuses 64 file at size e0 e1 e2)
+  write_call file at size e0 e1 e2 = grind (arith, common_steps, writes_output, refuses)
 
   three : (rest : ℕ → ℕ → ℕ → SymOutcome) (o : ByteOutcome) →
       ((x y z : ℕ) → u.registers a0 ≡ x → u.registers a1 ≡ y → u.registers a2 ≡ z → Follows r L (rest x y z) o) →
       Follows r L (symbol.three_arguments s rest) o
-  three rest o f =
-      argument a0 (λ x. symbol.argument s a1 (λ y. symbol.argument s a2 (rest x y))) o
-      (λ x e. argument a1 (λ y. symbol.argument s a2 (rest x y)) o (λ y g. argument a2 (rest x y) o (λ z h. f x y z e g h)))
+  three rest o f = grind (arith, common_steps, argument)
 
   calls : (n : ℕ) (k : Call) → u.registers a7 ≡ n → Follows r L (symbol.calls s next n k) (byte.calls u from k)
   calls n Read e = three (symbol.read_call s next) (byte.read_call u from (u.registers a0 == 0)) read_call
-  calls n Write e =
-      three (symbol.write_call s next) (byte.write_call u from (u.registers a0 == 1 || u.registers a0 == 2)) write_call
+  calls n Write e = grind (arith, common_steps, three, write_call)
   calls n Exit e = argument a0 (λ x. Ended (x % 256)) (Ended (u.registers a0 % 256)) (λ x h. ap (λ (m : ℕ). m % 256) (sym h))
   calls n Brk e =
       argument a0 (λ x. symbol.sets_break s next x (with_break (Byte 0) x s))
@@ -316,12 +290,8 @@ module _ (r : Rewrite) (L : ℕ → ℕ → Type 0) (symbols : Symbols r) (space
       (record { number = 214; used = x ∷ []; moved = []; result = (with_break (Byte 0) x s).program_break })
       (record { number = 214; used = x ∷ []; moved = []; result = (with_break 0 x u).program_break })
       rest_related leads (rw broken refl)))
-  calls n Unknown e =
-      returns_follows r L s u next from (record { number = n; used = []; moved = []; result = no_such_call })
-      (record { number = u.registers a7; used = []; moved = []; result = no_such_call }) rel leads (rw e refl)
+  calls n Unknown e = grind (arith, common_steps, returns_follows)
 
   pub system_call : Follows r L (symbol.argument s a7 (λ n. symbol.calls s next n (call_of n)))
       (byte.calls u from (call_of (u.registers a7)))
-  system_call =
-      argument a7 (λ n. symbol.calls s next n (call_of n)) (byte.calls u from (call_of (u.registers a7)))
-      (λ n e. rw e (calls n (call_of n) e))
+  system_call = grind (arith, common_steps, argument, calls)

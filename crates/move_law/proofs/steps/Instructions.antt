@@ -41,28 +41,19 @@ use Rattle.move_law.proofs.steps.Actions.{IsPlain, IsNoJump, arm, is_saving}
 use Rattle.move_law.proofs.steps.Premises.{may_be_left_out, Facts}
 use Rattle.move_law.proofs.code.InstLists.{found_at}
 use Rattle.std.proofs.lemmas.Option.{same_Some}
+use Rattle.std.proofs.lemmas.Grind.{common_steps}
 use Rattle.rb_bytes.proofs.ListLemmas.{if_found}
 
 -- Widths and offsets.
 
 pub width_even : (x : Executable) (p : ℕ) (inst : Inst) → HasAt x p inst → width_at x p % 2 ≡ 0
-width_even x p inst has = by (width_at x p) has.is_inst
-  where
-    by : (bytes : ℕ) → Decodes (halfword_in (memory_of x) p) (Some (halfword_in (memory_of x) (p + 2))) inst bytes →
-        bytes % 2 ≡ 0
-    by bytes (inl d) = rw d.two_bytes refl
-    by bytes (inr d) = rw d.four_bytes refl
+width_even x p inst has = grind (arith, common_steps)
 
 pub width_some : (x : Executable) (p : ℕ) (inst : Inst) → HasAt x p inst → 0 < width_at x p
-width_some x p inst has = by (width_at x p) has.is_inst
-  where
-    by : (bytes : ℕ) → Decodes (halfword_in (memory_of x) p) (Some (halfword_in (memory_of x) (p + 2))) inst bytes → 0 < bytes
-    by bytes (inl d) = let two_bytes = d.two_bytes in omega (arith, two_bytes)
-    by bytes (inr d) = let four_bytes = d.four_bytes in omega (arith, four_bytes)
+width_some x p inst has = grind (arith, common_steps)
 
 pub offset_even : (x : Executable) (p : ℕ) (inst : Inst) → HasAt x p inst → EvenOffset inst
-offset_even x p inst has =
-    even_offset (halfword_in (memory_of x) p) (Some (halfword_in (memory_of x) (p + 2))) inst (width_at x p) has.is_inst
+offset_even x p inst has = grind (arith, common_steps, even_offset)
 
 abbrev EvenBranch : Action → Type 0
 EvenBranch (Branch test wanted rs1 rs2 imm) = unsigned64 imm % 2 ≡ 0
@@ -140,9 +131,7 @@ module _ (r : Rewrite) (L : ℕ → ℕ → Type 0) (facts : Facts r L) where
   -- a call returns to its end
   call_leads : (p : Placed) → Contains (insts_of r.code.funcs) p → is_call (action_at p) ≡ true →
       IfSome (next_of r.code.funcs p.addr) (λ a. L (inst_end r p.addr) (out r a))
-  call_leads p contains call =
-      let go : GetsToNext r L p (inst_end r p.addr) = facts.goes_on p contains (rw (call_goes_on (action_at p) call) refl) in
-      rw call at go
+  call_leads p contains call = grind (arith, common_steps, call_goes_on)
 
   -- the address to which a pointer leads
   reaches : (p : Pointer) (to : ℕ) → IsGivenPointer r p → destination r.code.funcs p ≡ Some to →
@@ -191,14 +180,11 @@ module _ (r : Rewrite) (L : ℕ → ℕ → Type 0) (facts : Facts r L) (p : Pla
 
   even_end : (u : ByteState) (inst : Inst) → HasAt r.output (out r p.addr) inst → u.pc % 2 ≡ 0 →
       plus u.pc (width_at r.output (out r p.addr)) % 2 ≡ 0
-  even_end u inst has even =
-      even_plus u.pc (width_at r.output (out r p.addr)) even (width_even r.output (out r p.addr) inst has)
+  even_end u inst has even = grind (arith, common_steps, even_plus, width_even)
 
   test_holds : (test : Test) (rs1 rs2 : ℕ) (u : ByteState) → RelatedData r (record state { pc = p.addr }) u →
       IfSome (tested test (state.registers rs1) (state.registers rs2)) (λ t. holds test (u.registers rs1) (u.registers rs2) ≡ t)
-  test_holds test rs1 rs2 u rel =
-      tested_stands r facts.symbols test (state.registers rs1) (state.registers rs2) (u.registers rs1) (u.registers rs2)
-      (rel.registers rs1) (rel.registers rs2)
+  test_holds test rs1 rs2 u rel = grind (arith, common_steps, tested_stands)
 
   plain : IsPlain (action_at p) → HasInSpan r p (made_anew (out r) p.addr p.role p.inst) →
       Kept r L (record state { pc = p.addr }) (step_of r p (record state { pc = p.addr }))

@@ -3,6 +3,7 @@
 use Rattle.std.proofs.Common.{◌≡◌, ℕ, zero, suc, ◌%◌, ◌<◌, ◌≤◌, [], Option, Some, None, Bool, true, false, refl, sym, ap, ◌∙◌}
 use Rattle.std.proofs.Common.{subst, arith, ℤ}
 use Rattle.std.specs.Prelude.{if◌then◌else◌, ◌==◌, Contains, unwrap_or}
+use Rattle.std.proofs.lemmas.Grind.{common_steps}
 use Rattle.rv_code.specs.declared.action.Action.{Action}
 use Rattle.rv_code.specs.declared.action.Action.TheVariants.{Jump}
 use Rattle.rv_code.specs.declared.placed.Placed.{Placed}
@@ -48,13 +49,7 @@ jump_goes r p s imm e = rw e refl
 
 pub code_of : (r : Rewrite) → ((a : ℕ) → IsCodeByte r.output a → a < address_end) → (c : SymState) (b : ByteState) →
     RelatedData r c b → HasCode r.output b
-code_of r low c b rel = record {
-  low = low;
-  may = λ a is. ap (λ (s : Space). s.executes a) rel.output_rights ∙ is.0;
-  byte = λ a is.
-      let found = loaded_byte r.output PF_X a is.0 in
-      rel.loaded a found.0 is.1 found.1 ∙ sym (ap (λ (o : Option ℕ). unwrap_or o 0) found.1);
-}
+code_of r low c b rel = grind (arith, common_steps, loaded_byte)
 
 pub code_is_low : (r : Rewrite) → KeepsCode r → (a : ℕ) → IsCodeByte r.output a → a < address_end
 code_is_low r keeps a is = let found = loaded_byte r.output PF_X a is.0 in byte_low r.output keeps.output a found.0 found.1

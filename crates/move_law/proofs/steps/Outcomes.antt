@@ -2,6 +2,7 @@
 use Rattle.std.proofs.Common.{◌≡◌, ℕ, zero, suc, ◌<◌, ◌≤◌, List, length, Option, Some, None, Bool, true, false, refl, sym, ap, ◌∙◌, arith}
 use Rattle.std.specs.Prelude.{◌||◌, nat_le, nat_lt}
 use Rattle.std.proofs.lemmas.Bool.{and_parts, leb-true, ltb-true, ne_eqb}
+use Rattle.std.proofs.lemmas.Grind.{common_steps}
 use Rattle.rv_code.specs.machine.Machine.{set_register, all_may, memory_bytes, put, Space, may_read, may_write, in_break, Event}
 use Rattle.rv_code.specs.machine.Machine.{Going, Ended, Halts}
 use Rattle.rv_code.specs.machine.Step.{ByteState, ByteOutcome}
@@ -65,39 +66,19 @@ lt_le x y z h k = omega arith
 
 module _ (r : Rewrite) (spaces : SameSpaces r) (c : SymState) (b : ByteState) (rel : RelatedData r c b) where
   pub break_start_same : c.space.break_start ≡ b.space.break_start
-  break_start_same =
-      ap (λ (s : Space). s.break_start) rel.input_rights ∙ spaces.break_start_is
-      ∙ sym (ap (λ (s : Space). s.break_start) rel.output_rights)
+  break_start_same = grind (arith, common_steps)
 
   pub break_bound_same : c.space.break_bound ≡ b.space.break_bound
-  break_bound_same =
-      ap (λ (s : Space). s.break_bound) rel.input_rights ∙ spaces.break_bound_is
-      ∙ sym (ap (λ (s : Space). s.break_bound) rel.output_rights)
+  break_bound_same = grind (arith, common_steps)
 
   in_break_same : (a : ℕ) → in_break c a ≡ in_break b a
   in_break_same a = rw (break_start_same, rel.break_is) refl
 
   pub may_read_kept : (a : ℕ) → may_read c a ≡ true → may_read b a ≡ true
-  may_read_kept a may = by (c.space.reads a) refl
-    where
-      by : (t : Bool) → c.space.reads a ≡ t → may_read b a ≡ true
-      by true e =
-          let f : b.space.reads a ≡ true = ap (λ (s : Space). s.reads a) rel.output_rights
-          ∙ spaces.reads a (sym (ap (λ (s : Space). s.reads a) rel.input_rights) ∙ e) in
-          rw f refl
-      by false e =
-          let g : in_break b a ≡ true = sym (in_break_same a) ∙ (rw e at may) in or_last (b.space.reads a) (in_break b a) g
+  may_read_kept a may = grind (arith, common_steps, in_break_same, or_last)
 
   pub may_write_kept : (a : ℕ) → may_write c a ≡ true → may_write b a ≡ true
-  may_write_kept a may = by (c.space.writes a) refl
-    where
-      by : (t : Bool) → c.space.writes a ≡ t → may_write b a ≡ true
-      by true e =
-          let f : b.space.writes a ≡ true = ap (λ (s : Space). s.writes a) rel.output_rights
-          ∙ spaces.writes a (sym (ap (λ (s : Space). s.writes a) rel.input_rights) ∙ e) in
-          rw f refl
-      by false e =
-          let g : in_break b a ≡ true = sym (in_break_same a) ∙ (rw e at may) in or_last (b.space.writes a) (in_break b a) g
+  may_write_kept a may = grind (arith, common_steps, in_break_same, or_last)
 
   -- a byte that may not be written isn't written
   pub fixed_not_written : (a byte : ℕ) → is_loaded_with PF_W r.output.segments a ≡ false →
@@ -122,8 +103,7 @@ module _ (r : Rewrite) (spaces : SameSpaces r) (c : SymState) (b : ByteState) (r
   -- Loads read related bytes.
   pub reads_alike : (a n : ℕ) → all_may (may_read c) a n ≡ true →
       Alike (StandsForByte r) (memory_bytes c.memory a n) (memory_bytes b.memory a n)
-  reads_alike a n can =
-      bytes_alike (StandsForByte r) c.memory b.memory (may_read c) a n (λ q may. rel.memory q (rw may refl)) can
+  reads_alike a n can = grind (arith, common_steps, bytes_alike)
 
   pub reads_can : (a n : ℕ) → all_may (may_read c) a n ≡ true → all_may (may_read b) a n ≡ true
   reads_can a n can = all_may_implied (may_read c) (may_read b) a n may_read_kept can
@@ -152,18 +132,7 @@ module _ (r : Rewrite) (spaces : SameSpaces r) (c : SymState) (b : ByteState) (r
 -- the relation doesn't depend on the pcs
 pub moved_data : (r : Rewrite) (c : SymState) (b : ByteState) (p q : ℕ) → RelatedData r c b →
     RelatedData r (record c { pc = p }) (record b { pc = q })
-moved_data r c b p q rel =
-    record {
-      zero_is = rel.zero_is;
-      registers = rel.registers;
-      memory = rel.memory;
-      input = rel.input;
-      break_is = rel.break_is;
-      break_fits = rel.break_fits;
-      input_rights = rel.input_rights;
-      output_rights = rel.output_rights;
-      loaded = rel.loaded;
-    }
+moved_data r c b p q rel = grind (arith, common_steps)
 
 pub written_data : (r : Rewrite) (c : SymState) (b : ByteState) (p q rd x : ℕ) (v : Value) → RelatedData r c b →
     ((k : ℕ) → rd ≡ suc k → StandsFor r v x) →

@@ -44,6 +44,7 @@ use Rattle.move_law.proofs.map.MappedPlaces.{place}
 use Rattle.move_law.proofs.code.InstLists.{function_code, start_code}
 use Rattle.sym_machine.specs.Values.{IsSymbol}
 use Rattle.std.proofs.lemmas.List.Elements.{All-contains}
+use Rattle.std.proofs.lemmas.Grind.{common_steps}
 use Rattle.elf_code.proofs.Counts.{can_of}
 use Rattle.sym_machine.proofs.StartFields.{in_range}
 use Rattle.rb_bytes.proofs.ListLemmas.{find_none, none_any, only_one, if_found}
@@ -53,9 +54,7 @@ use Rattle.elf_image.proofs.LowSegments.{break_fits}
 -- The files.
 
 holds_inside : (a : ℕ) (range : Range) → range.start ≤ a → a < range.start + range.size → is_in_range a range ≡ true
-holds_inside a range h k =
-    and_from (nat_le range.start a) (nat_lt a (range.start + range.size)) (le-leb range.start a h)
-    (lt-ltb a (range.start + range.size) k)
+holds_inside a range h k = grind (arith, common_steps, and_from, le-leb, lt-ltb)
 
 or_parts : (x y : Bool) → x || y ≡ false → (x ≡ false) × (y ≡ false)
 or_parts true y e = absurd (cc)
@@ -89,8 +88,7 @@ flags : (reads writes executes stack break : Bool) → stack ≡ false → break
 flags true w x s b e f h = inl refl
 flags false true x s b e f h = inr (inl refl)
 flags false false true s b e f h = inr (inr refl)
-flags false false false s b e f h =
-    absurd (let k : ((false || false) || false) || ((false || false) || false) || false ≡ true = rw (e, f) at h in cc)
+flags false false false s b e f h = grind (arith, common_steps)
 
 module _ (r : Rewrite) (keeps : KeepsCode r) (args : List (List ℕ)) (fit : FitStack args) where
   pub entry_is : e_entry r.output.file ≡ out r r.input.entry
@@ -125,14 +123,7 @@ module _ (r : Rewrite) (keeps : KeepsCode r) (args : List (List ℕ)) (fit : Fit
   in_numbers : (a : ℕ) → stack_pointer args ≤ a → a < stack_pointer args + 8 * (count args + 17) →
       start_memory r.output.file args a ≡ get_or (stack_of args (table_address r.output.file) (e_phnum r.output.file)
       (e_entry r.output.file)) (a - stack_pointer args) 0
-  in_numbers a from to =
-      let rooms = room args fit in
-      let end = rooms.0 in
-      let fits = fit in
-      let inside : in_stack a ≡ true = and_from (nat_le (stack_end - stack_size) a) (nat_lt a stack_end)
-      (le-leb (stack_end - stack_size) a (omega (arith, fits, from))) (lt-ltb a stack_end (omega (arith, end, to))) in
-      rw (inside, le-leb (stack_pointer args) a from) (ap (λ (l : List ℕ). get_or l (a - stack_pointer args) 0)
-      (stack_is r.output.file args))
+  in_numbers a from to = grind (arith, common_steps, room, and_from, le-leb, lt-ltb, stack_is)
 
   entry_on_the_stack : (a : ℕ) → is_in_range a (at_entry args) ≡ true →
       StandsForByte r (SymbolByte (Points (Code r.input.entry)) 8 (a - (at_entry args).start))

@@ -6,7 +6,7 @@ use Rattle.std.specs.Option.{option_or}
 use Rattle.std.proofs.lemmas.Bool.{ne_eqb, eqb-true, eqb-false, and_parts, lt-ltb, le-ltb}
 use Rattle.std.proofs.lemmas.Int.{ints}
 use Rattle.std.specs.Int.Bits.{xor_self, and_mask}
-use Rattle.std.proofs.lemmas.Grind.{and_high_numeral}
+use Rattle.std.proofs.lemmas.Grind.{and_high_numeral, common_steps}
 use Rattle.rv_code.specs.declared.op.Op.{Op}
 use Rattle.rv_code.specs.declared.op.Op.TheVariants as op
 use Rattle.rv_code.specs.declared.action.Operand.{Operand}
@@ -65,38 +65,19 @@ pub record Symbols (r : Rewrite) : Type 0 where
 
 -- two numbers are equal exactly if two others are
 same_test : (a b x y : ℕ) → (x ≡ y → a ≡ b) → (a ≡ b → x ≡ y) → (x == y) ≡ (a == b)
-same_test a b x y f g = cases (x == y) refl (a == b) refl
-  where
-    cases : (p : Bool) → (x == y) ≡ p → (q : Bool) → (a == b) ≡ q → p ≡ q
-    cases true h true k = refl
-    cases false h false k = refl
-    cases true h false k = absurd (eqb-false a b k (f (eqb-true x y h)))
-    cases false h true k = absurd (eqb-false x y h (g (eqb-true a b k)))
+same_test a b x y f g = grind (arith, common_steps, eqb-false, eqb-true)
 
 pub number_stands : (r : Rewrite) (n : ℕ) → StandsFor r (Num n) n
 number_stands r n = record { value = tt; given = tt; number = refl }
 
 pub label_stands : (r : Rewrite) (t : ℕ) → Label r t → StandsFor r (value_of r.code.funcs t) (out r t)
-label_stands r t l = by (is_code_address r.code.funcs t) refl
-  where
-    by : (b : Bool) → is_code_address r.code.funcs t ≡ b → StandsFor r (if b then Sym (Points (Code t)) else Num t) (out r t)
-    by true e = record { value = tt; given = l.named e; number = refl }
-    by false e = record { value = tt; given = tt; number = l.stays e }
+label_stands r t l = grind (arith, common_steps)
 
 -- a value of a label has the label's number
 label_number : (r : Rewrite) (t : ℕ) (w : Value) (z : ℕ) → Label r t → StandsFor r w z →
     is_value_of r.code.funcs t w ≡ true → z ≡ out r t
-label_number r t (Num n) z l is e =
-    let parts = and_parts (not (is_code_address r.code.funcs t)) (n == t) e in
-    let no : is_code_address r.code.funcs t ≡ false = not_true (is_code_address r.code.funcs t) parts.0 in
-    is.number ∙ eqb-true n t parts.1 ∙ sym (l.stays no)
-  where
-    not_true : (b : Bool) → not b ≡ true → b ≡ false
-    not_true true h = absurd (cc)
-    not_true false h = refl
-label_number r t (Sym (Points (Code a))) z l is e =
-    let parts = and_parts (is_code_address r.code.funcs t) (a == t) e in
-    is.number ∙ ap (λ (n : ℕ). out r n) (eqb-true a t parts.1)
+label_number r t (Num n) z l is e = grind (arith, common_steps, and_parts, eqb-true)
+label_number r t (Sym (Points (Code a))) z l is e = grind (arith, common_steps, and_parts, eqb-true)
 label_number r t (Sym (Points (Ret a))) z l is e = absurd (cc)
 label_number r t (Sym (Hi a)) z l is e = absurd (cc)
 label_number r t (Sym (Abs a)) z l is e = absurd (cc)
@@ -148,12 +129,7 @@ from_difference_stands r f (Sym (Hi a)) w x y h k = tt
 from_difference_stands r f (Sym (Abs a)) w x y h k = tt
 from_difference_stands r f (Sym (Apart by p q)) w x y h k = tt
 from_difference_stands r f (Sym (Diff to from)) w x y h k =
-    let l = f.labels to from h.given in
-    only_stands r (is_value_of r.code.funcs from w) (value_of r.code.funcs to) (plus x y)
-    (λ e.
-    let z : y ≡ out r from = label_number r from w y l.1 k e in
-    let s : out r to ≡ plus x y = rw (h.number, z) (diff_back (out r to) (out r from) l.0.fits l.1.fits) in
-    at_number r (value_of r.code.funcs to) (out r to) (plus x y) s (label_stands r to l.0))
+    grind (arith, common_steps, only_stands, label_number, diff_back, at_number, label_stands)
 
 plus_turned : (x y : ℕ) → plus y x ≡ plus x y
 plus_turned x y = omega arith
@@ -183,14 +159,7 @@ compared_stands : (r : Rewrite) (by : Comparing) (p q : Pointer) (a b x y : ℕ)
     (a ≢ b → AreSymbolsApart p q) → (a ≡ b → number_of_pointer r p ≡ number_of_pointer r q) →
     IsPlace (number_of_pointer r p) → x ≡ number_of_pointer r p → y ≡ number_of_pointer r q →
     StandsFor r (compared by p q a b) (apply (op_of by) x y)
-compared_stands r by p q a b x y g h apart same place is is' = cases (a == b) refl by
-  where
-    cases : (t : Bool) → (a == b) ≡ t → (by : Comparing) →
-        StandsFor r (if t then Num 0 else Sym (Apart by p q)) (apply (op_of by) x y)
-    cases true e Sub =
-        record { value = tt; given = tt; number = no_difference x y (rw is place.low) (is ∙ same (eqb-true a b e) ∙ sym is') }
-    cases true e Xor = record { value = tt; given = tt; number = no_xor x y (is ∙ same (eqb-true a b e) ∙ sym is') }
-    cases false e by = record { value = apart (eqb-false a b e); given = (g, h); number = rw (is, is') refl }
+compared_stands r by p q a b x y g h apart same place is is' = grind (arith, common_steps, no_difference, eqb-true, no_xor, eqb-false)
 
 compared_by_stands : (r : Rewrite) → Symbols r → (by : Comparing) (p q : Pointer) (x y : ℕ) →
     StandsFor r (Sym (Points p)) x → StandsFor r (Sym (Points q)) y →
@@ -198,9 +167,7 @@ compared_by_stands : (r : Rewrite) → Symbols r → (by : Comparing) (p q : Poi
 compared_by_stands r f by (Code a) (Code b) x y h k =
     compared_stands r by (Code a) (Code b) a b x y h.given k.given (λ n. n)
     (λ e. ap (λ (n : ℕ). number_of_pointer r (Code n)) e) (f.place (Code a) h.given) h.number k.number
-compared_by_stands r f by (Ret a) (Ret b) x y h k =
-    compared_stands r by (Ret a) (Ret b) a b x y h.given k.given (λ n. n)
-    (λ e. ap (λ (n : ℕ). number_of_pointer r (Ret n)) e) (f.place (Ret a) h.given) h.number k.number
+compared_by_stands r f by (Ret a) (Ret b) x y h k = grind (arith, common_steps, compared_stands)
 compared_by_stands r f by (Code a) (Ret b) x y h k = tt
 compared_by_stands r f by (Ret a) (Code b) x y h k = tt
 
@@ -212,20 +179,7 @@ high_bits x h k = let e = and_high_numeral x (2 ^ 64 - 3) refl h in omega (arith
 
 masked_stands : (r : Rewrite) → Symbols r → (p : Pointer) (n x : ℕ) → StandsFor r (Sym (Points p)) x →
     IfSome (masked p n) (λ u. StandsFor r u (apply op.And x n))
-masked_stands r f p n x h = cases (n == 1) refl
-  where
-    place : IsPlace (number_of_pointer r p)
-    place = f.place p h.given
-
-    cases : (t : Bool) → (n == 1) ≡ t →
-        IfSome (if t then Some (Num 0) else only_if (n == 2 ^ 64 - 2) (Sym (Points p))) (λ u. StandsFor r u (apply op.And x n))
-    cases true e = record { value = tt; given = tt; number = rw (eqb-true n 1 e) (low_bit x ∙ rw h.number place.even) }
-    cases false e =
-        only_stands r (n == 2 ^ 64 - 2) (Sym (Points p)) (apply op.And x n)
-        (λ k.
-        let low : x < 2 ^ 64 = let l = place.low in rw h.number (omega (arith, l)) in
-        let s : bit_and x n ≡ x = rw (eqb-true n (2 ^ 64 - 2) k) (high_bits x low (rw h.number place.even)) in
-        at_number r (Sym (Points p)) x (bit_and x n) (sym s) h)
+masked_stands r f p n x h = grind (arith, common_steps, eqb-true, low_bit, only_stands, high_bits, at_number)
 
 -- Operations.
 
@@ -245,17 +199,11 @@ num_apart y n e = absurd (cc)
 
 copies : (r : Rewrite) → Symbols r → (v : Value) (n x : ℕ) → StandsFor r v x → ((m : ℕ) → v ≡ Num m → ⊥) →
     IfSome (only_if (n == 0) v) (λ u. StandsFor r u (apply op.Add x n))
-copies r f v n x h apart =
-    only_stands r (n == 0) v (plus x n) (λ e. let l : x < 2 ^ 64 = f.value_fits v x h apart in
-    let z : n ≡ 0 = eqb-true n 0 e in at_number r v x (plus x n) (omega (arith, l, z)) h)
+copies r f v n x h apart = grind (arith, common_steps, only_stands, eqb-true, at_number)
 
 below_one : (r : Rewrite) → Symbols r → (v : Value) (n x : ℕ) → StandsFor r v x →
     IfSome (only_if (n == 1 && is_nonzero v) (Num 0)) (λ u. StandsFor r u (apply op.Sltu x n))
-below_one r f v n x h = only_stands r (n == 1 && is_nonzero v) (Num 0) (apply op.Sltu x n) (λ e.
-    let parts = and_parts (n == 1) (is_nonzero v) e in
-    let p : 0 < x = above_zero r f v x h parts.1 in
-    let one : n ≡ 1 = eqb-true n 1 parts.0 in
-    record { value = tt; given = tt; number = flag_ge x n (omega (arith, p, one)) })
+below_one r f v n x h = grind (arith, common_steps, only_stands, and_parts, above_zero, eqb-true, flag_ge)
 
 -- an operation on two registers
 pub on_registers_stands : (r : Rewrite) → Symbols r → (o : Op) (v w : Value) (x y : ℕ) → StandsFor r v x →
@@ -263,14 +211,10 @@ pub on_registers_stands : (r : Rewrite) → Symbols r → (o : Op) (v w : Value)
 on_registers_stands r f o (Num a) (Num b) x y h k = rw (h.number, k.number) (number_stands r (apply o a b))
 on_registers_stands r f op.Add (Num a) (Sym z) x y h k =
     sum_stands r f (Num a) (Sym z) x y h k (λ n e. absurd (num_apart z n e)) (λ n e. f.value_fits (Sym z) y k (num_apart z))
-on_registers_stands r f op.Add (Num a) (Piece z i j m g) x y h k =
-    sum_stands r f (Num a) (Piece z i j m g) x y h k (λ n e. absurd (cc))
-    (λ n e. f.value_fits (Piece z i j m g) y k (λ n e. absurd (cc)))
+on_registers_stands r f op.Add (Num a) (Piece z i j m g) x y h k = grind (arith, common_steps, sum_stands)
 on_registers_stands r f op.Add (Sym z) w x y h k =
     sum_stands r f (Sym z) w x y h k (λ n e. f.value_fits (Sym z) x h (num_apart z)) (λ n e. absurd (num_apart z n e))
-on_registers_stands r f op.Add (Piece z i j m g) w x y h k =
-    sum_stands r f (Piece z i j m g) w x y h k (λ n e. f.value_fits (Piece z i j m g) x h (λ n e. absurd (cc)))
-    (λ n e. absurd (cc))
+on_registers_stands r f op.Add (Piece z i j m g) w x y h k = grind (arith, common_steps, sum_stands)
 on_registers_stands r f op.Sub (Sym (Points p)) (Sym (Points q)) x y h k = compared_by_stands r f Sub p q x y h k
 on_registers_stands r f op.Xor (Sym (Points p)) (Sym (Points q)) x y h k = compared_by_stands r f Xor p q x y h k
 on_registers_stands r f _ _ _ x y h k = tt
@@ -303,14 +247,11 @@ on_constant_stands r f _ _ n x h = tt
 pub combined_stands : (r : Rewrite) → Symbols r → (registers : ℕ → Value) (b : ByteState) → registers 0 ≡ Num 0 →
     ((i : ℕ) → StandsFor r (registers i) (b.registers i)) → (o : Op) (left right : Operand) →
     IfSome (combined r.code.funcs registers o left right) (λ u. StandsFor r u (apply o (operand b left) (operand b right)))
-combined_stands r f registers b z all o (Register zero) (Register r2) =
-    let s : StandsFor r (Num 0) (b.registers 0) = subst (λ (v : Value). StandsFor r v (b.registers 0)) z (all 0) in
-    on_zero_stands r f o (registers 0) (registers r2) (b.registers 0) (b.registers r2) s.number (all 0) (all r2)
+combined_stands r f registers b z all o (Register zero) (Register r2) = grind (arith, common_steps, on_zero_stands)
 combined_stands r f registers b z all o (Register (suc r1)) (Register r2) =
     on_registers_stands r f o (registers (suc r1)) (registers r2) (b.registers (suc r1)) (b.registers r2) (all (suc r1))
     (all r2)
-combined_stands r f registers b z all o (Register zero) (Immediate imm) =
-    on_constant_stands r f o (registers 0) (unsigned64 imm) (b.registers 0) (all 0)
+combined_stands r f registers b z all o (Register zero) (Immediate imm) = grind (arith, common_steps, on_constant_stands)
 combined_stands r f registers b z all o (Register (suc r1)) (Immediate imm) =
     on_constant_stands r f o (registers (suc r1)) (unsigned64 imm) (b.registers (suc r1)) (all (suc r1))
 combined_stands r f registers b z all o (Immediate imm) right = tt
@@ -322,23 +263,13 @@ equal_pointers_stand : (r : Rewrite) → Symbols r → (p q : Pointer) (x y : �
 equal_pointers_stand r f (Code a) (Code b) x y h k =
     same_test a b x y (λ e. f.code_once a b h.given k.given (sym h.number ∙ e ∙ k.number))
     (λ e. h.number ∙ ap (λ (n : ℕ). number_of_pointer r (Code n)) e ∙ sym k.number)
-equal_pointers_stand r f (Ret a) (Ret b) x y h k =
-    same_test a b x y (λ e. f.ret_once a b h.given k.given (sym h.number ∙ e ∙ k.number))
-    (λ e. h.number ∙ ap (λ (n : ℕ). number_of_pointer r (Ret n)) e ∙ sym k.number)
+equal_pointers_stand r f (Ret a) (Ret b) x y h k = grind (arith, common_steps, same_test)
 equal_pointers_stand r f (Code a) (Ret b) x y h k = tt
 equal_pointers_stand r f (Ret a) (Code b) x y h k = tt
 
 equal_number_stands : (r : Rewrite) → Symbols r → (v : Value) (n x y : ℕ) → StandsFor r v x → y ≡ n →
     IfSome (equal_number v n) (λ t. ((x == y) ≡ t) × ((y == x) ≡ t))
-equal_number_stands r f v n x y h k = cases (n == 0 && is_nonzero v) refl
-  where
-    cases : (t : Bool) → (n == 0 && is_nonzero v) ≡ t → IfSome (only_if t false) (λ t. ((x == y) ≡ t) × ((y == x) ≡ t))
-    cases false e = tt
-    cases true e =
-        let parts = and_parts (n == 0) (is_nonzero v) e in
-        let p : 0 < x = above_zero r f v x h parts.1 in
-        let z : n ≡ 0 = eqb-true n 0 parts.0 in
-        (ne_eqb x y (λ s. absurd (omega (arith, p, z, k, s))), ne_eqb y x (λ s. absurd (omega (arith, p, z, k, s))))
+equal_number_stands r f v n x y h k = grind (arith, common_steps, and_parts, above_zero, eqb-true, ne_eqb)
 
 first_of_two : (x y : ℕ) (o : Option Bool) → IfSome o (λ t. ((x == y) ≡ t) × ((y == x) ≡ t)) → IfSome o (λ t. (x == y) ≡ t)
 first_of_two x y None h = tt
@@ -354,10 +285,7 @@ tested_stands r f test (Num a) (Num b) x y h k = rw (h.number, k.number) refl
 tested_stands r f Equal (Sym (Points p)) (Sym (Points q)) x y h k = equal_pointers_stand r f p q x y h k
 tested_stands r f Equal (Sym z) (Num n) x y h k =
     first_of_two x y (equal_number (Sym z) n) (equal_number_stands r f (Sym z) n x y h k.number)
-tested_stands r f Equal (Piece z i j m g) (Num n) x y h k =
-    first_of_two x y (equal_number (Piece z i j m g) n) (equal_number_stands r f (Piece z i j m g) n x y h k.number)
-tested_stands r f Equal (Num n) (Sym z) x y h k =
-    second_of_two y x (equal_number (Sym z) n) (equal_number_stands r f (Sym z) n y x k h.number)
-tested_stands r f Equal (Num n) (Piece z i j m g) x y h k =
-    second_of_two y x (equal_number (Piece z i j m g) n) (equal_number_stands r f (Piece z i j m g) n y x k h.number)
+tested_stands r f Equal (Piece z i j m g) (Num n) x y h k = grind (arith, common_steps, first_of_two, equal_number_stands)
+tested_stands r f Equal (Num n) (Sym z) x y h k = grind (arith, common_steps, second_of_two, equal_number_stands)
+tested_stands r f Equal (Num n) (Piece z i j m g) x y h k = grind (arith, common_steps, second_of_two, equal_number_stands)
 tested_stands r f _ _ _ x y h k = tt

@@ -4,6 +4,7 @@ use Rattle.std.specs.Prelude.{nat_lt, if◌then◌else◌}
 use Rattle.std.specs.Int.{int_shr}
 use Rattle.std.proofs.lemmas.Int.{ints}
 use Rattle.std.proofs.lemmas.Bool.{ltb-true, ltb-false}
+use Rattle.std.proofs.lemmas.Grind.{common_steps}
 use Rattle.rv_code.specs.isa.Bits.{field, signed_by, imm_i, imm_s}
 use Rattle.rv_code.specs.isa.HiLo.{hi20, lo12}
 use Rattle.elf_code.specs.Roles.{pair_target}
@@ -15,11 +16,7 @@ pub record IsLower (z : ℤ) : Type 0 where
   pub high : z ≤ℤ pos 2047
 
 signed_lower : (n : ℕ) → n < 4096 → IsLower (signed_by 2048 n)
-signed_lower n h = by (nat_lt n 2048) refl
-  where
-    by : (b : Bool) → nat_lt n 2048 ≡ b → IsLower (if b then pos n else (pos n -ℤ pos (2 * 2048)))
-    by true e = let l = ltb-true n 2048 e in record { low = omega (arith, ints, l); high = omega (arith, ints, l) }
-    by false e = let l = ltb-false n 2048 e in record { low = omega (arith, ints, l, h); high = omega (arith, ints, l, h) }
+signed_lower n h = grind (arith, common_steps, ltb-true, ints, ltb-false)
 
 pub imm_i_lower : (w : ℕ) → IsLower (imm_i w)
 imm_i_lower w = signed_lower (field w 20 12) (omega arith)
@@ -36,14 +33,10 @@ shr_of (negsuc a) (pos b) low high = absurd (omega (arith, ints, low, high))
 
 split : (t a : ℕ) (u l : ℤ) → IsLower l → pos t ≡ pair_target a u l →
     (pos 0 ≤ℤ (distance t a +ℤ pos 0x800 -ℤ pos 4096 *ℤ u)) × ((distance t a +ℤ pos 0x800 -ℤ pos 4096 *ℤ u) ≤ℤ pos 4095)
-split t a u l is e =
-    let low = is.low in
-    let high = is.high in (omega (arith, ints, low, high, e), omega (arith, ints, low, high, e))
+split t a u l is e = grind (arith, common_steps, ints)
 
 pub upper_is : (t a : ℕ) (u l : ℤ) → IsLower l → pos t ≡ pair_target a u l → hi20 (distance t a) ≡ u
 upper_is t a u l is e = let s = split t a u l is e in shr_of (distance t a +ℤ pos 0x800) u s.0 s.1
 
 pub lower_is : (t a : ℕ) (u l : ℤ) → IsLower l → pos t ≡ pair_target a u l → lo12 (distance t a) ≡ l
-lower_is t a u l is e =
-    ap (λ (z : ℤ). distance t a -ℤ (pos 4096 *ℤ z)) (upper_is t a u l is e) ∙ antisym (distance t a -ℤ (pos 4096 *ℤ u)) l
-    (omega (arith, ints, e)) (omega (arith, ints, e))
+lower_is t a u l is e = grind (arith, common_steps, upper_is, antisym, ints)

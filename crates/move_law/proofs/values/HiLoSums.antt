@@ -2,6 +2,7 @@
 use Rattle.std.proofs.Common.{◌≡◌, ℕ, ◌*◌, ◌%◌, ◌^◌, ◌<◌, arith, ℤ, pos, negsuc, ◌+ℤ◌, ◌-ℤ◌, ◌*ℤ◌, ◌≤ℤ◌}
 use Rattle.std.specs.Int.{int_shr}
 use Rattle.std.proofs.lemmas.Int.{ints}
+use Rattle.std.proofs.lemmas.Grind.{common_steps}
 use Rattle.rv_code.specs.isa.HiLo.{hi20, lo12}
 use Rattle.rv_code.specs.machine.Machine.{plus}
 use Rattle.rv_code.specs.isa.TwosComplement.{unsigned64}
@@ -16,10 +17,7 @@ shr_within (pos a) h = let high = h.high in record { low = omega (arith, ints, h
 shr_within (negsuc a) h = let low = h.low in record { low = omega (arith, ints, low); high = omega (arith, ints, low) }
 
 pub upper_within : (v : ℤ) → Within (2 ^ 32) v → Within (2 ^ 21) (hi20 v)
-upper_within v h =
-    let low = h.low in
-    let high = h.high in
-    shr_within (v +ℤ pos 0x800) (record { low = omega (arith, ints, low, high); high = omega (arith, ints, low, high) })
+upper_within v h = grind (arith, common_steps, shr_within, ints)
 
 pub distance_within : (t o : ℕ) → t < 2 ^ 31 → o < 2 ^ 31 → Within (2 ^ 32) (distance t o)
 distance_within t o h k = record { low = omega (arith, ints, h, k); high = omega (arith, ints, h, k) }
@@ -52,7 +50,4 @@ number_sum_of : (t : ℕ) (z : ℤ) → t < 2 ^ 31 → Within (2 ^ 21) z →
 number_sum_of t z h w = let low = w.low in let high = w.high in omega (arith, ints, h, low, high)
 
 pub number_sum : (t : ℕ) → t < 2 ^ 31 → plus (hi20_value (pos t)) (unsigned64 (lo12 (pos t))) ≡ t
-number_sum t h =
-    let z : ℤ = hi20 (pos t) in
-    let w : Within (2 ^ 21) z = upper_within (pos t) (number_within t h) in
-    number_sum_of t z h w
+number_sum t h = grind (arith, common_steps, upper_within, number_within, number_sum_of)

@@ -12,6 +12,7 @@ use Rattle.rv_code.specs.isa.Extension.{bytes_of, extended}
 use Rattle.rv_code.specs.machine.Machine.{little, low_bytes}
 use Rattle.rv_code.specs.isa.TwosComplement.{unsigned64}
 use Rattle.std.specs.Int.{w8, w16, w32, cast_signed}
+use Rattle.std.proofs.lemmas.Grind.{common_steps}
 use Rattle.sym_machine.specs.declared.value.Pointer.{Pointer}
 use Rattle.sym_machine.specs.declared.value.Pointer.TheVariants.{Code, Ret}
 use Rattle.sym_machine.specs.declared.value.Comparing.{Comparing}
@@ -50,17 +51,8 @@ pub same_symbol-true : (y z : CodeSymbol) → same_symbol y z ≡ true → y ≡
 same_symbol-true (Points p) (Points q) e = ap Points (same_pointer-true p q e)
 same_symbol-true (Hi a) (Hi b) e = ap Hi (eqb-true a b e)
 same_symbol-true (Abs a) (Abs b) e = ap Abs (eqb-true a b e)
-same_symbol-true (Diff a c) (Diff b d) e =
-    let p = and_parts (a == b) (c == d) e in
-    let f = eqb-true a b p.0 in
-    let g = eqb-true c d p.1 in cc
-same_symbol-true (Apart b p q) (Apart c s t) e =
-    let parts = and_parts (same_comparing b c && same_pointer p s) (same_pointer q t) e in
-    let more = and_parts (same_comparing b c) (same_pointer p s) parts.0 in
-    let f = same_comparing-true b c more.0 in
-    let g = same_pointer-true p s more.1 in
-    let h = same_pointer-true q t parts.1 in
-    cc
+same_symbol-true (Diff a c) (Diff b d) e = grind (arith, common_steps, and_parts, eqb-true)
+same_symbol-true (Apart b p q) (Apart c s t) e = grind (arith, common_steps, and_parts, same_comparing-true, same_pointer-true)
 same_symbol-true _ _ e = absurd (cc)
 
 -- the next byte of a number
@@ -80,11 +72,7 @@ numbers_alike r [] (b ∷ bs) h = absurd h
 numbers_alike r (d ∷ cs) [] h = absurd h
 numbers_alike r (SymbolByte y w i ∷ cs) (b ∷ bs) h = tt
 numbers_alike r (Hidden ∷ cs) (b ∷ bs) h = tt
-numbers_alike r (Byte a ∷ cs) (b ∷ bs) h = cases (numbers cs) (numbers_alike r cs bs h.1)
-  where
-    cases : (o : Option (List ℕ)) → IfSome o (λ ns. bs ≡ ns) → IfSome (and_byte (Byte a) o) (λ ns. b ∷ bs ≡ ns)
-    cases None e = tt
-    cases (Some ns) e = let f : b ≡ a = h.0.byte in cc
+numbers_alike r (Byte a ∷ cs) (b ∷ bs) h = grind (arith, common_steps, numbers_alike r cs bs h.1)
 
 -- Stores.
 
@@ -111,11 +99,7 @@ size_fits n (inr (inr (inl e))) = rw e (omega arith)
 size_fits n (inr (inr (inr e))) = rw e (omega arith)
 
 width_is : (n : ℕ) → IsWidth (if n == 4 then 4 else 8)
-width_is n = cases (n == 4)
-  where
-    cases : (b : Bool) → IsWidth (if b then 4 else 8)
-    cases true = inl refl
-    cases false = inr refl
+width_is n = grind (arith, common_steps)
 
 low_bytes_same : (n x y : ℕ) → x % 256 ^ n ≡ y % 256 ^ n → low_bytes n x ≡ low_bytes n y
 unfolding low_bytes
@@ -150,31 +134,19 @@ of_four (suc (suc (suc (suc zero)))) x m h e = omega (arith, e)
 of_four (suc (suc (suc (suc (suc n))))) x m h e = absurd (omega (arith, h))
 
 small8 : (x : ℕ) → x < 256 → unsigned64 (cast_signed w8 x) % 256 ≡ x
-small8 x h = by (nat_lt x 128) refl
-  where
-    by : (b : Bool) → nat_lt x 128 ≡ b → unsigned64 (if b then pos x else negsuc (256 - suc x)) % 256 ≡ x
-    by true e = omega (arith, h)
-    by false e = omega (arith, h)
+small8 x h = grind (arith, common_steps)
 
 signed8 : (m : ℕ) → unsigned64 (cast_signed w8 (m % 256 ^ 1)) % 256 ≡ m % 256
 signed8 m = small8 (m % 256 ^ 1) (omega arith) ∙ omega arith
 
 small16 : (x : ℕ) → x < 65536 → unsigned64 (cast_signed w16 x) % 65536 ≡ x
-small16 x h = by (nat_lt x 32768) refl
-  where
-    by : (b : Bool) → nat_lt x 32768 ≡ b → unsigned64 (if b then pos x else negsuc (65536 - suc x)) % 65536 ≡ x
-    by true e = omega (arith, h)
-    by false e = omega (arith, h)
+small16 x h = grind (arith, common_steps)
 
 signed16 : (m : ℕ) → unsigned64 (cast_signed w16 (m % 256 ^ 2)) % 65536 ≡ m % 65536
 signed16 m = small16 (m % 256 ^ 2) (omega arith) ∙ omega arith
 
 small32 : (x : ℕ) → x < 4294967296 → unsigned64 (cast_signed w32 x) % 4294967296 ≡ x
-small32 x h = by (nat_lt x 2147483648) refl
-  where
-    by : (b : Bool) → nat_lt x 2147483648 ≡ b → unsigned64 (if b then pos x else negsuc (4294967296 - suc x)) % 4294967296 ≡ x
-    by true e = omega (arith, h)
-    by false e = omega (arith, h)
+small32 x h = grind (arith, common_steps)
 
 signed32 : (m : ℕ) → unsigned64 (cast_signed w32 (m % 256 ^ 4)) % 4294967296 ≡ m % 4294967296
 signed32 m = small32 (m % 256 ^ 4) (omega arith) ∙ omega arith
@@ -182,12 +154,9 @@ signed32 m = small32 (m % 256 ^ 4) (omega arith) ∙ omega arith
 -- the low bytes of a piece are bytes of the number of its symbol
 low_of_piece : (n k m : ℕ) (e : Signedness) → n ≤ k → (k ≡ 1) ⊎ ((k ≡ 2) ⊎ (k ≡ 4)) →
     extended (extension_of k e) (m % 256 ^ k) % 256 ^ n ≡ m % 256 ^ n
-low_of_piece n k m Signed h (inl e) =
-    rw e (of_one n (unsigned64 (cast_signed w8 (m % 256 ^ 1))) m (omega (arith, h, e)) (signed8 m))
-low_of_piece n k m Signed h (inr (inl e)) =
-    rw e (of_two n (unsigned64 (cast_signed w16 (m % 256 ^ 2))) m (omega (arith, h, e)) (signed16 m))
-low_of_piece n k m Signed h (inr (inr e)) =
-    rw e (of_four n (unsigned64 (cast_signed w32 (m % 256 ^ 4))) m (omega (arith, h, e)) (signed32 m))
+low_of_piece n k m Signed h (inl e) = grind (arith, common_steps, of_one, signed8)
+low_of_piece n k m Signed h (inr (inl e)) = grind (arith, common_steps, of_two, signed16)
+low_of_piece n k m Signed h (inr (inr e)) = grind (arith, common_steps, of_four, signed32)
 low_of_piece n k m Unsigned h (inl e) = rw e (of_one n (m % 256 ^ 1) m (omega (arith, h, e)) (omega arith))
 low_of_piece n k m Unsigned h (inr (inl e)) = rw e (of_two n (m % 256 ^ 2) m (omega (arith, h, e)) (omega arith))
 low_of_piece n k m Unsigned h (inr (inr e)) = rw e (of_four n (m % 256 ^ 4) m (omega (arith, h, e)) (omega arith))
@@ -195,9 +164,7 @@ low_of_piece n k m Unsigned h (inr (inr e)) = rw e (of_four n (m % 256 ^ 4) m (o
 pub stored_stands : (r : Rewrite) → Symbols r → (n : ℕ) (v : Value) (x : ℕ) → IsSize n → StandsFor r v x →
     IfSome (stored n v) (λ cells. Alike (StandsForByte r) cells (low_bytes n x))
 stored_stands r f n (Num y) x size h = rw h.number (bytes_alike r (low_bytes n y))
-stored_stands r f n (Sym y) x size h =
-    parts_alike r y (if n == 4 then 4 else 8) 0 n x h.value h.given (width_is n) (size_fits n size)
-    (h.number ∙ sym (div-one (number_of_symbol r y)))
+stored_stands r f n (Sym y) x size h = grind (arith, common_steps, parts_alike, width_is, size_fits, div-one)
 stored_stands r f n (Piece y w i k e) x size h = cases (nat_le n k) refl
   where
     cases : (t : Bool) → nat_le n k ≡ t →
@@ -225,17 +192,7 @@ parts_bytes r y w i x (d ∷ cs) [] e h p = absurd h
 parts_bytes r y w i x (Byte a ∷ cs) (b ∷ bs) e h p = absurd (cc)
 parts_bytes r y w i x (Hidden ∷ cs) (b ∷ bs) e h p = absurd (cc)
 parts_bytes r y w i x (SymbolByte z v j ∷ cs) (b ∷ bs) e h p =
-    let p1 = and_parts (same_symbol y z && (w == v) && (i == j)) (are_symbol_bytes y w (suc i) cs) p in
-    let p2 = and_parts (same_symbol y z && (w == v)) (i == j) p1.0 in
-    let p3 = and_parts (same_symbol y z) (w == v) p2.0 in
-    let rest : bs ≡ low_bytes (length cs) (x / 256) = parts_bytes r y w (suc i) (x / 256) cs bs
-    (next_byte x (number_of_symbol r y) i e) h.1 p1.1 in
-    let first : b ≡ x % 256 = h.0.byte
-    ∙ (rw (e, same_symbol-true y z p3.0, eqb-true i j p2.1) (one_byte (number_of_symbol r z / 256 ^ j))) in
-    cc
-  where
-    one_byte : (m : ℕ) → m % 256 ^ 1 ≡ m % 256
-    one_byte m = omega arith
+    grind (arith, common_steps, and_parts, next_byte, same_symbol-true, eqb-true, parts_bytes r y w (suc i) (x / 256) cs bs)
 
 -- the parts are within the symbol's width
 parts_inside : (r : Rewrite) (y : CodeSymbol) (w i : ℕ) (cs : List MemoryByte) (bs : List ℕ) → i ≤ w →
@@ -257,47 +214,12 @@ parts_inside r y w i (SymbolByte z v j ∷ cs) (b ∷ bs) inside h p =
 pub piece_stands : (r : Rewrite) → Symbols r → (e : Extension) (y : CodeSymbol) (w i x : ℕ) → IsSymbol y → IsGiven r y →
     IsWidth w → i + bytes_of e ≤ w → x ≡ bytes_from (number_of_symbol r y) i (bytes_of e) →
     IfSome (piece e y w i) (λ v. StandsFor r v (extended e x))
-piece_stands r f Whole64 y w i x s g wide fits is = only_stands r (w == 8 && i == 0) (Sym y) x (λ e.
-    let parts = and_parts (w == 8) (i == 0) e in
-    let low = f.fits y s g in
-    let start : i ≡ 0 = eqb-true i 0 parts.1 in
-    record { value = s; given = g; number = is ∙ (rw start (whole (number_of_symbol r y) low)) })
-  where
-    whole : (m : ℕ) → m < 2 ^ 64 → m / 1 % 256 ^ 8 ≡ m
-    whole m h = omega (arith, h)
-piece_stands r f Signed32 y w i x s g wide fits is = cases (w == 4 && i == 0) refl
-  where
-    four : (m : ℕ) → m / 1 % 256 ^ 4 ≡ m % 2 ^ 32
-    four m = omega arith
-
-    low : i ≡ 0 → number_of_symbol r y / 256 ^ i % 256 ^ 4 ≡ number_of_symbol r y % 2 ^ 32
-    low e = rw e (four (number_of_symbol r y))
-
-    cases : (t : Bool) → (w == 4 && i == 0) ≡ t → StandsFor r (if t then Sym y else Piece y w i 4 Signed) (extended Signed32 x)
-    cases false e = record { value = (s, (wide, inr (inr refl), fits)); given = g; number = ap (extended Signed32) is }
-    cases true e =
-        let parts = and_parts (w == 4) (i == 0) e in
-        let start : i ≡ 0 = eqb-true i 0 parts.1 in
-        record { value = s; given = g; number = rw (is ∙ low start) (f.short y s g) }
-piece_stands r f Zero32 y w i x s g wide fits is = cases (w == 4 && i == 0 && is_unsigned y) refl
-  where
-    four : (m : ℕ) → m < 2 ^ 32 → m / 1 % 256 ^ 4 ≡ m
-    four m h = omega (arith, h)
-
-    cases : (t : Bool) → (w == 4 && i == 0 && is_unsigned y) ≡ t →
-        StandsFor r (if t then Sym y else Piece y w i 4 Unsigned) (extended Zero32 x)
-    cases false e = record { value = (s, (wide, inr (inr refl), fits)); given = g; number = is }
-    cases true e =
-        let parts = and_parts (w == 4 && i == 0) (is_unsigned y) e in
-        let more = and_parts (w == 4) (i == 0) parts.0 in
-        let start : i ≡ 0 = eqb-true i 0 more.1 in
-        let low = f.unsigned y s g parts.1 in
-        record { value = s; given = g; number = is ∙ (rw start (four (number_of_symbol r y) low)) }
-piece_stands r f Signed16 y w i x s g wide fits is =
-    record { value = (s, (wide, inr (inl refl), fits)); given = g; number = ap (extended Signed16) is }
+piece_stands r f Whole64 y w i x s g wide fits is = grind (arith, common_steps, only_stands, and_parts, eqb-true)
+piece_stands r f Signed32 y w i x s g wide fits is = grind (arith, common_steps, and_parts, eqb-true)
+piece_stands r f Zero32 y w i x s g wide fits is = grind (arith, common_steps, and_parts, eqb-true)
+piece_stands r f Signed16 y w i x s g wide fits is = grind (arith, common_steps)
 piece_stands r f Zero16 y w i x s g wide fits is = record { value = (s, (wide, inr (inl refl), fits)); given = g; number = is }
-piece_stands r f Signed8 y w i x s g wide fits is =
-    record { value = (s, (wide, inl refl, fits)); given = g; number = ap (extended Signed8) is }
+piece_stands r f Signed8 y w i x s g wide fits is = grind (arith, common_steps)
 piece_stands r f Zero8 y w i x s g wide fits is = record { value = (s, (wide, inl refl, fits)); given = g; number = is }
 
 loaded_symbol_stands : (r : Rewrite) → Symbols r → (e : Extension) (cs : List MemoryByte) (bs : List ℕ) →
@@ -331,10 +253,4 @@ loaded_symbol_stands r f e (SymbolByte y w i ∷ cs) (b ∷ bs) len h = cases (a
 
 pub loaded_stands : (r : Rewrite) → Symbols r → (e : Extension) (cs : List MemoryByte) (bs : List ℕ) →
     length cs ≡ bytes_of e → Alike (StandsForByte r) cs bs → IfSome (loaded e cs) (λ v. StandsFor r v (extended e (little bs)))
-loaded_stands r f e cs bs len h = cases (numbers cs) (numbers_alike r cs bs h)
-  where
-    cases : (o : Option (List ℕ)) → IfSome o (λ ns. bs ≡ ns) →
-        IfSome (option_or (option_map (λ bytes. Num (extended e (little bytes))) o) (loaded_symbol e cs))
-        (λ v. StandsFor r v (extended e (little bs)))
-    cases None q = loaded_symbol_stands r f e cs bs len h
-    cases (Some ns) q = rw q (number_stands r (extended e (little ns)))
+loaded_stands r f e cs bs len h = grind (arith, common_steps, numbers_alike, loaded_symbol_stands, number_stands)
