@@ -19,7 +19,7 @@ pub(crate) struct NewOrder {
     inputs: Vec<u64>,
     /// For each line, the last line up to it whose span has bytes, or 0 if there is none. A byte after an empty span
     /// may belong to a longer span that started before it.
-    holders: Vec<usize>,
+    holders: Vec<u32>,
 }
 
 impl Model for NewOrder {
@@ -92,7 +92,8 @@ impl NewOrder {
         if count == 0 {
             return None;
         }
-        let holder = self.holders[count - 1];
+        let held = self.holders[count - 1];
+        let holder = held as usize;
         if p - self.outs.members()[holder] < self.lens[holder] as u64 {
             Some(self.inputs[holder])
         } else {
@@ -103,7 +104,7 @@ impl NewOrder {
 
 // The column `holders` of spans with the lengths `lens`.
 #[tactic(auto, using(crate::proofs::Owners::holder_here, crate::proofs::Owners::holder_none, crate::proofs::Owners::holder_next))]
-fn holders_of(alloc: Global, lens: &[u8]) -> Result<Vec<usize>, NoMemory>
+fn holders_of(alloc: Global, lens: &[u8]) -> Result<Vec<u32>, NoMemory>
     ensures count { IfOk result (λ holders. length holders.items ≡ length lens.now) }
     ensures held { IfOk result (λ holders. (i : ℕ) → i < length lens.now →
         IsHolder lens.now i (slice_index holders.items i)) }
@@ -112,9 +113,16 @@ fn holders_of(alloc: Global, lens: &[u8]) -> Result<Vec<usize>, NoMemory>
     let mut holder = 0;
     for (i, len) in lens.iter().enumerate() {
         if *len > 0 {
-            holder = i;
+            holder = short_index(i)?;
         }
         holders.push(holder)?;
     }
     Ok(holders)
+}
+
+// An index in 32 bits. A map of more spans fits in no memory.
+fn short_index(i: usize) -> Result<u32, NoMemory>
+    ensures { IfOk result (λ n. n ≡ i) }
+{
+    u32::try_from(i).ok().ok_or(NoMemory)
 }

@@ -9,36 +9,36 @@ returns-then-count-eq0 c =
 
 pub bounds-members-holder : goal.bounds-members-holder
 bounds-members-holder c =
-    let h = held_at c.self.invariant c.rank-count.ensures c.if-count-eq0.false c.index-holder.ensures in
+    let h = held_at c.self.invariant c.rank-count.ensures c.if-count-eq0.false c.index-held.ensures in
     rw c.members.ensures (holder_inside h)
 
 pub offset_bounds-members-holder : goal.offset_bounds-members-holder
 offset_bounds-members-holder c =
-    let holder = c.index-holder.result.now in
-    let h = held_at c.self.invariant c.rank-count.ensures c.if-count-eq0.false c.index-holder.ensures in
+    let holder = c.index-held.result.now in
+    let h = held_at c.self.invariant c.rank-count.ensures c.if-count-eq0.false c.index-held.ensures in
     let inside : holder < length c.members.result.now = rw c.members.ensures (holder_inside h) in
     omega (arith, inside, c.members.type_inv)
 
 pub index-requires : goal.index-requires
 index-requires c =
-    let h = held_at c.self.invariant c.rank-count.ensures c.if-count-eq0.false c.index-holder.ensures in
+    let h = held_at c.self.invariant c.rank-count.ensures c.if-count-eq0.false c.index-held.ensures in
     omega (arith, holder_inside h, c.self.invariant.lens_count, c.self.inside.lens.ok)
 
 pub index-requires-then-p-members : goal.index-requires-then-p-members
 index-requires-then-p-members c =
-    let h = held_at c.self.invariant c.rank-count.ensures c.if-count-eq0.false c.index-holder.ensures in
+    let h = held_at c.self.invariant c.rank-count.ensures c.if-count-eq0.false c.index-held.ensures in
     omega (arith, holder_inside h, c.self.invariant.inputs_count, c.self.inside.inputs.ok)
 
 pub overflow_sub-p : goal.overflow_sub-p
 overflow_sub-p c =
-    let h = held_at c.self.invariant c.rank-count.ensures c.if-count-eq0.false c.index-holder.ensures in
+    let h = held_at c.self.invariant c.rank-count.ensures c.if-count-eq0.false c.index-held.ensures in
     rw c.members.ensures (holder_low h)
 
 pub returns-then-p-members : goal.returns-then-p-members
 returns-then-p-members c =
     let m = c.self.inside in
-    let holder = c.index-holder.result.now in
-    let h = held_at c.self.invariant c.rank-count.ensures c.if-count-eq0.false c.index-holder.ensures in
+    let holder = c.index-held.result.now in
+    let h = held_at c.self.invariant c.rank-count.ensures c.if-count-eq0.false c.index-held.ensures in
     let inside = holder_inside h in
     let len : c.index.result.now ≡ get_or m.lens.items holder 0
     = c.index.ensures ∙ get_or_default_zero m.lens.items holder c.index.result.now
@@ -53,8 +53,8 @@ returns-then-p-members c =
 pub returns-else-p-members : goal.returns-else-p-members
 returns-else-p-members c =
     let m = c.self.inside in
-    let holder = c.index-holder.result.now in
-    let h = held_at c.self.invariant c.rank-count.ensures c.if-count-eq0.false c.index-holder.ensures in
+    let holder = c.index-held.result.now in
+    let h = held_at c.self.invariant c.rank-count.ensures c.if-count-eq0.false c.index-held.ensures in
     let inside = holder_inside h in
     let len : c.index.result.now ≡ get_or m.lens.items holder 0
     = c.index.ensures ∙ get_or_default_zero m.lens.items holder c.index.result.now
