@@ -38,8 +38,8 @@ impl Model for AddrMap {
 
 impl AddrMap {
     /// Makes a map from its spans, in any order: one for each instruction, and no byte in two of them. Spans in the
-    /// order of lines take little more than the sort of their blocks by old address. The memory is about 65 bytes for
-    /// each span, of which the map keeps about 40.
+    /// order of lines take little more than the sort of their blocks by old address, and about 65 bytes of memory each,
+    /// of which the map keeps about 40.
     pub fn new(alloc: Global, spans: Vec<Span>) -> Result<AddrMap, NoMemory>
         requires once { AllPairs (λ s t. s.input ≢ t.input) spans.items }
         requires disjoint { AllPairs ShareNoByte spans.items }
