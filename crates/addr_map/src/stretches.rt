@@ -5,7 +5,7 @@ ghost use Rattle.addr_map.specs.internal.Stretches.{spans_in};
 
 use crate::span::Span;
 use rb_bytes::fault::NoMemory;
-use std::alloc::{AllocError, Global};
+use std::alloc::Global;
 
 // The most bytes of an instruction.
 const MOST_BYTES: u64 = 4;
@@ -25,11 +25,11 @@ pub(crate) fn in_stretches(alloc: Global, spans: &[Span]) -> Result<Vec<Span>, N
 {
     let mut stretches = stretches_of(alloc, spans)?;
     sort_stretches(&mut stretches)?;
-    Ok(joined(alloc, &stretches, spans.len())?)
+    joined(alloc, &stretches, spans.len())
 }
 
 // The stretches of a list of spans.
-fn stretches_of<'a>(alloc: Global, spans: &'a [Span]) -> Result<Vec<Stretch<'a>>, AllocError>
+fn stretches_of<'a>(alloc: Global, spans: &'a [Span]) -> Result<Vec<Stretch<'a>>, NoMemory>
     ensures { IfOk result (λ stretches. flat_map spans_in stretches.items ≡ spans.now) }
 {
     let mut stretches = Vec::new(alloc);
@@ -72,7 +72,7 @@ fn sort_stretches(stretches: &mut Vec<Stretch>) -> Result<(), NoMemory>
 }
 
 // The `count` spans of these stretches.
-fn joined(alloc: Global, stretches: &[Stretch], count: usize) -> Result<Vec<Span>, AllocError>
+fn joined(alloc: Global, stretches: &[Stretch], count: usize) -> Result<Vec<Span>, NoMemory>
     ensures { IfOk result (λ spans. spans.items ≡ flat_map spans_in stretches.now) }
 {
     let mut spans = Vec::with_capacity(alloc, count)?;
