@@ -94,14 +94,15 @@ __attribute__((noinline)) int f@(int *values, int count) {
 """
 
 
-def build_large(path, mib):
-    """Builds a program of about so many MiB with all tables, of units of 200 functions each by GCC; gives how many."""
+def build_large(path, mib, function=FUNCTION):
+    """Builds a program of about so many MiB with all tables, of units of 200 such functions each by GCC; gives how
+    many."""
     folder = os.path.dirname(path)
     source, one = (os.path.join(folder, name) for name in ("unit.c", "unit.o"))
     with open(source, "w", encoding="ascii") as file:
         file.write("int f0(int *values, int count);\n")
         for k in range(200):
-            file.write(FUNCTION.replace("@", str(k)).replace("$", str(max(k - 1, 0))))
+            file.write(function.replace("@", str(k)).replace("$", str(max(k - 1, 0))))
     call([CROSS + "gcc", *MACHINE, *OWN_TABLES, "-g", "-O2", "-c", source, "-o", one])
     count = max(1, round(mib * 2**20 / (1.04 * os.path.getsize(one))))
     objects = [os.path.join(folder, f"unit{k}.o") for k in range(count)]
