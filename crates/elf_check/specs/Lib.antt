@@ -1,4 +1,3 @@
 pub mod EntryNames
-pub mod NewNames
 pub mod NewSymbols
 pub mod NewTables

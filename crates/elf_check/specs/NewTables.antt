@@ -7,8 +7,8 @@ use Rattle.rv_code.specs.declared.placed.Func.{Func}
 use Rattle.elf_plan.specs.Area.{shift_of}
 use Rattle.elf_plan.specs.FileLayout.{HasFileLayout}
 use Rattle.elf_plan.specs.HeaderPlaces.{HasNewHeaders}
-use Rattle.elf_check.specs.NewNames.{HaveNewNames}
 pub use Rattle.elf_plan.specs.NewAreas.{area_for}
+use Rattle.elf_plan.specs.NewNames.{HaveNewNames}
 use Rattle.elf_plan.specs.NewSections.{AreNewSections}
 use Rattle.elf_check.specs.NewSymbols.{HaveNewSymbols}
 

@@ -1,9 +1,7 @@
-//! Whether a file that was written has all that it must have, as it is read back.
+//! Whether a file that was written has the symbols that it must have, as it is read back.
 #![tactic(auto)]
 
 mod entry_names;
-mod file_check;
-mod name_check;
 mod name_parts;
 mod read_back;
 mod symbol_check;

@@ -1,4 +1,4 @@
-// Whether a file that was written has the names and symbols that it must have, as they are read back.
+// Whether a file that was written has the symbols that it must have, as they are read back.
 ghost use Rattle.std.specs.Prelude.{◌≡◌, ℕ, IfOk, IsTrue, List, length};
 ghost use Rattle.rv_code.specs.layout.FunctionLists.{AreLaidOut};
 ghost use Rattle.elf_image.specs.faults.FileFaults.{IsSound};
@@ -10,15 +10,13 @@ ghost use Rattle.elf_check.specs.EntryNames.{WasRead};
 ghost use Rattle.elf_plan.specs.FileLayout.{HasFileLayout};
 ghost use Rattle.elf_plan.specs.HeaderPlaces.{HasNewHeaders};
 ghost use Rattle.elf_plan.specs.NameTables as spec;
-ghost use Rattle.elf_check.specs.NewNames.{HaveNewNames};
+ghost use Rattle.elf_plan.specs.NewNames.{HaveNewNames};
 ghost use Rattle.elf_plan.specs.NewSections.{AreNewSections};
 ghost use Rattle.elf_plan.specs.Plans.{IsPlanOf};
 ghost use Rattle.elf_check.specs.NewSymbols.{AreNewSymbols, HaveNewSymbols, bytes_behind};
 ghost use Rattle.elf_check.specs.NewTables.{HasNewTables};
 
 use crate::entry_names::KeptNames;
-use crate::file_check::FileCheck;
-use crate::name_check::has_names;
 use crate::symbol_check::CodeSymbols;
 use crate::symbol_tables::SymbolTables;
 use elf_image::symbol::SYM_SIZE;
@@ -122,59 +120,8 @@ fn has_symbols(alloc: Global, source: &SectionSource, new: &Elf) -> Result<bool,
     has_symbols_of(alloc, source, new, table, new_table)
 }
 
-// Whether the names and the symbols are those that the file must have.
-fn has_names_and_symbols(
-    alloc: Global,
-    source: &SectionSource,
-    check: &FileCheck,
-) -> Result<bool, Unwritable>
-    requires old { WasRead source.now.elf.now }
-    requires new { WasRead check.now.new.now }
-    requires laid_out { AreLaidOut source.now.funcs.now }
-    requires fragments { AreFragments source.now.funcs.now source.now.map.now source.now.fragments.now }
-    requires firsts { AreFirstNames source.now.elf.now.symbols.items source.now.names.now }
-    requires input { check.now.elf.now ≡ source.now.elf.now }
-    ensures names { IfOk result (λ holds. IsTrue holds →
-        HaveNewNames source.now.elf.now check.now.new.now check.now.given.now check.now.area source.now.funcs.now
-        source.now.cold.now) }
-    ensures symbols { IfOk result (λ holds. IsTrue holds →
-        HaveNewSymbols source.now.elf.now check.now.new.now source.now.funcs.now source.now.map.now
-        source.now.cold.now) }
-{
-    if !has_names(source.names, check, source.funcs, source.cold) {
-        return Ok(false);
-    }
-    has_symbols(alloc, source, check.new)
-}
-
-// Whether names and symbols are what they must be.
-fn has_new_tables(
-    alloc: Global,
-    source: &SectionSource,
-    plan: &Plan,
-    new: &Elf,
-) -> Result<bool, Unwritable>
-    requires old { WasRead source.now.elf.now }
-    requires new { WasRead new.now }
-    requires laid_out { AreLaidOut source.now.funcs.now }
-    requires fragments { AreFragments source.now.funcs.now source.now.map.now source.now.fragments.now }
-    requires firsts { AreFirstNames source.now.elf.now.symbols.items source.now.names.now }
-    ensures names { IfOk result (λ holds. IsTrue holds → HaveNewNames source.now.elf.now new.now source.now.tables.now
-        plan.now.area source.now.funcs.now source.now.cold.now) }
-    ensures symbols { IfOk result (λ holds. IsTrue holds →
-        HaveNewSymbols source.now.elf.now new.now source.now.funcs.now source.now.map.now source.now.cold.now) }
-{
-    let check = FileCheck {
-        elf: source.elf,
-        new,
-        given: source.tables,
-        area: plan.area,
-    };
-    has_names_and_symbols(alloc, source, &check)
-}
-
-/// Whether the reader takes the bytes `file`, and finds in them the names and symbols that follow from the input and
-/// its plan. The sections, the program headers and the layout are proved of each file that is made, so they aren't
+/// Whether the reader takes the bytes `file`, and finds in them the symbols that follow from the input and its plan.
+/// The sections, the names, the program headers and the layout are proved of each file that is made, so they aren't
 /// looked at.
 pub fn is_accepted(
     alloc: Global,
@@ -195,11 +142,13 @@ pub fn is_accepted(
         HasNewHeaders source.now.elf.now new source.now.tables.now plan.now.area plan.now.shift) →
         ((new : Elf) → IsElfOf file.now new →
         HasFileLayout source.now.elf.now new source.now.tables.now plan.now.area plan.now.shift) →
+        ((new : Elf) → IsElfOf file.now new → HaveNewNames source.now.elf.now new source.now.tables.now plan.now.area
+        source.now.funcs.now source.now.cold.now) →
         HasNewTables source.now.elf.now source.now.tables.now code source.now.funcs.now source.now.cold.now
         source.now.map.now plan.now.area.tight file.now) }
 {
     match read(alloc, file) {
-        Ok(found) => has_new_tables(alloc, source, plan, &found),
+        Ok(found) => has_symbols(alloc, source, &found),
         Err(Refusal::Fault(_)) => Ok(false),
         Err(Refusal::Memory) => Err(Unwritable::Memory),
     }

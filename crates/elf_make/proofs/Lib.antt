@@ -1,4 +1,5 @@
 pub mod AddedByIndex
+pub mod AddedNames
 pub mod AllWritten
 pub mod BehindWritten
 pub mod BesideWritten
@@ -31,6 +32,7 @@ pub mod Loads
 pub mod MadeHeaders
 pub mod MadeInput
 pub mod MadeSegments
+pub mod NamesMade
 pub mod NamesRead
 pub mod PiecesWritten
 pub mod PlacedContents
@@ -43,6 +45,7 @@ pub mod SectionsNamed
 pub mod SectionsRead
 pub mod SoundFiles
 pub mod StandingOrder
+pub mod SymbolTables
 pub mod TableBytes
 pub mod TableKept
 pub mod TablePlace

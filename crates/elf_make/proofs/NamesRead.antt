@@ -12,7 +12,7 @@ use Rattle.elf_parts.specs.Patches.{Stands}
 use Rattle.elf_parts.proofs.MoreNames.{text_of-front}
 use Rattle.elf_parts.proofs.Patches.{take-stands}
 use Rattle.elf_plan.specs.OldNames.{old_name}
-use Rattle.elf_make.specs.NamesAdded.{ended}
+use Rattle.elf_plan.specs.NewNames.{ended}
 use Rattle.elf_make.specs.SetHeaders.{Keeps}
 
 abbrev goes_on : ℕ → Bool

@@ -56,11 +56,11 @@ set-name shift Symbols x h = refl
 set-name shift SymbolNames x h = refl
 set-name shift (Given t) x h = refl
 
-own-held : (kind : ℕ) (ys : List ℕ) → (kind_of_own kind == SHT_NOBITS) ≡ true → [] ≡ ys
-own-held kind ys is = absurd (grind (arith, is))
+pub own-held : (kind : ℕ) (ys : List ℕ) → (kind == SHT_NOBITS) ≡ false → (kind_of_own kind == SHT_NOBITS) ≡ true → [] ≡ ys
+own-held kind ys other is = absurd (grind (arith, other, is))
 
 -- the contents of a section, by its header or by what was read of it
-contents-read : (w : List ℕ) (k : ℕ) (n : Section) → IsSectionAt w k n → contents w (section_header w k) ≡ section_bytes w n
+pub contents-read : (w : List ℕ) (k : ℕ) (n : Section) → IsSectionAt w k n → contents w (section_header w k) ≡ section_bytes w n
 contents-read w k n is =
     ap (λ (m : ℕ). if m == SHT_NOBITS then [] else take (section_header w k).size (drop (section_header w k).offset w)) (sym is.kind)
     ∙ ap (λ (m : ℕ). if n.kind == SHT_NOBITS then [] else take m (drop (section_header w k).offset w)) (sym is.size)
@@ -92,6 +92,31 @@ module _ {Y Z : Type 0} (s : Source) (tight : Bool) (w : List ℕ) (read : IsElf
       let (x, is) = slice_get_found olds at (omega (arith, there, count)) in
       (x, is)
 
+  -- .. has bytes, since the name of a header ends there ..
+  ended-there : (k : ℕ) → k < length olds → IsUnended (section_names file) (section_header file k).name → ⊥
+  ended-there k below none =
+      let count = read.sections.count_is in
+      sound Truncated (section_place file k) (inr (
+        is-readable.header,
+        inr (inr (
+          is-readable.sections,
+          inr (inl (is-readable.section_names, (k, omega (arith, below, count), (none, refl)))),
+        )),
+      ))
+
+  with_bytes : (x : Section) → slice_get olds at ≡ Some x → (x.kind == SHT_NOBITS) ≡ false
+  with_bytes x at_x = cases (x.kind == SHT_NOBITS) refl
+    where
+      cases : (b : Bool) → (x.kind == SHT_NOBITS) ≡ b → (x.kind == SHT_NOBITS) ≡ false
+      cases false e = e
+      cases true e =
+          let none : section_names file ≡ [] =
+          contents-read file at x (read.sections.each at x at_x)
+          ∙ ap (λ (b : Bool). if b then [] else take x.size (drop x.offset file)) e in
+          let low = slice_get_within olds at x at_x in
+          absurd (ended-there 0 (omega (arith, low)) (subst (λ (ys : List ℕ). IsUnended ys (section_header file 0).name) (sym none)
+          (λ j from below. absurd (omega (arith, below)))))
+
   -- .. and in the file
   pub table-read : section_names w ≡ table
   table-read =
@@ -106,21 +131,9 @@ module _ {Y Z : Type 0} (s : Source) (tight : Bool) (w : List ℕ) (read : IsElf
       let old = x-is s tight w read sound made can tables has new new_read at x n at_x at_n in
       let said = says-written s tight w read sound made can tables has new new_read at x n at_x at_n SectionNames known refl in
       let is = held s tight w read sound made can tables has new new_read at x n at_x at_n SectionNames known refl
-      (kind_of_own x.kind) table (said.kind ∙ ap kind_of_own (sym old.kind)) refl (own-held x.kind table) in
+      (kind_of_own x.kind) table (said.kind ∙ ap kind_of_own (sym old.kind)) refl (own-held x.kind table (with_bytes x at_x)) in
       ap (λ (i : ℕ). contents w (section_header w i)) (e_shstrndx-written s tight w made)
       ∙ contents-read w at n (new_read.sections.each at n at_n) ∙ is.contents
-
-  -- the name of a header of the input is ended in its table
-  ended-there : (k : ℕ) → k < length olds → IsUnended (section_names file) (section_header file k).name → ⊥
-  ended-there k below none =
-      let count = read.sections.count_is in
-      sound Truncated (section_place file k) (inr (
-        is-readable.header,
-        inr (inr (
-          is-readable.sections,
-          inr (inl (is-readable.section_names, (k, omega (arith, below, count), (none, refl)))),
-        )),
-      ))
 
   old-text : (k : ℕ) → k < length olds →
       text_of table (section_header file k).name ≡ text_of (section_names file) (section_header file k).name

@@ -1,8 +1,10 @@
 -- The bytes of the new area in a written file: the new code, and the tables that are loaded after it.
 use Rattle.std.specs.Prelude.{ℕ, ◌-◌, List, Bool, IfSome, String, Vec, codes}
+use Rattle.rv_code.specs.declared.placed.Func.{Func}
 use Rattle.elf_parts.specs.Patches.{Stands}
 use Rattle.elf_make.specs.declared.layout.Layout.{Layout}
 use Rattle.elf_make.specs.FileParts.{IsMade}
+use Rattle.elf_make.specs.MadeNames.{HasNames}
 use Rattle.elf_make.specs.MadeSections.{HasSections}
 use Rattle.elf_plan.specs.NewSections.{bytes_called}
 use Rattle.elf_make.specs.Source.{Source}
@@ -14,9 +16,10 @@ pub record HoldsTables {Y Z : Type 0} (tables : List (String Y × Vec ℕ Z)) (l
   pub index : IfSome layout.area.index
       (λ a. Stands layout.bytes.items (a - layout.area.start) (bytes_called tables (codes ".eh_frame_hdr")))
 
--- A file that was made, with these tables.
-pub record IsMadeWith {Y Z : Type 0} (s : Source) (tables : List (String Y × Vec ℕ Z)) (tight : Bool)
-    (w : List ℕ) : Type 0 where
+-- A file that was made, with these tables and the names of these cold parts.
+pub record IsMadeWith {Y Z : Type 0} (s : Source) (tables : List (String Y × Vec ℕ Z)) (funcs : List Func)
+    (cold : List ℕ) (tight : Bool) (w : List ℕ) : Type 0 where
   pub made : IsMade s tight w
   pub has_tables : HoldsTables tables made.layout
   pub sections : HasSections s tables tight w made
+  pub names : HasNames s.elf tables made.layout.area funcs cold sections.put.new

@@ -3,8 +3,8 @@ pub mod CarriedBytes
 pub mod CellNumbers
 pub mod FileParts
 pub mod FrontBytes
+pub mod MadeNames
 pub mod MadeSections
-pub mod NamesAdded
 pub mod PartPlaces
 pub mod PlacedContents
 pub mod SectionTable

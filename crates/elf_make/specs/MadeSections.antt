@@ -1,12 +1,13 @@
 -- The sections of a file that was made, and its program headers in all fields.
-use Rattle.std.specs.Prelude.{◌≡◌, ℕ, ◌+◌, List, Bool, false, String, Vec, codes, length, map, unwrap_or}
+use Rattle.std.specs.Prelude.{◌≡◌, ℕ, ◌+◌, List, Bool, false, IfSome, String, Vec, codes, length, map}
+use Rattle.std.specs.Prelude.{unwrap_or}
 use Rattle.elf_image.specs.declared.section.SectionHeader.{SectionHeader}
 use Rattle.elf_image.specs.file.Header.{e_shstrndx}
 use Rattle.elf_parts.specs.Parts.{size_of}
 use Rattle.elf_plan.specs.declared.sections.Contents.{Contents}
 use Rattle.elf_plan.specs.Contents.{contents_of, is_at}
 use Rattle.elf_plan.specs.HeaderPlaces.{ArePlaced, Outline}
-use Rattle.elf_plan.specs.NameTables.{place_of_symbols}
+use Rattle.elf_plan.specs.NameTables.{place_of_names, place_of_symbols}
 use Rattle.elf_plan.specs.Plans.{Arranges}
 use Rattle.elf_plan.specs.TableSizes.{table_size}
 use Rattle.elf_make.specs.FileParts.{IsMade, start_after}
@@ -30,8 +31,9 @@ pub record HasSections {Y Z : Type 0} (s : Source) (tables : List (String Y × V
   pub contents : List Contents
   pub order : List (ℕ × ℕ)
   pub arranged : Arranges s.elf tables made.layout.area made.layout.shift contents order
-  -- the symbol table doesn't have the names of sections
+  -- the symbol table has no names, neither those of sections nor those of symbols
   pub apart : is_at (e_shstrndx s.elf.file.now) (place_of_symbols s.elf) ≡ false
+  pub names_apart : IfSome (place_of_names s.elf) (λ i. is_at i (place_of_symbols s.elf) ≡ false)
   -- all section headers
   pub headers : List SectionHeader
   pub count : made.fields.sections ≡ length headers

@@ -1,6 +1,7 @@
 -- The table of section headers, which ends a written file. gABI, "Section Header".
 use Rattle.std.specs.Prelude.{◌≡◌, ℕ, ◌+◌, ◌-◌, ◌*◌, ◌^◌, ◌<◌, ◌≤◌, ◌++◌, min, List, All, String, Vec}
 use Rattle.std.specs.Prelude.{codes, length, map, slice_index_or}
+use Rattle.rv_code.specs.declared.placed.Func.{Func}
 use Rattle.elf_image.specs.declared.elf.Elf.{Elf}
 use Rattle.elf_image.specs.declared.section.SectionHeader.{SectionHeader}
 use Rattle.elf_image.specs.declared.section.TheConstants.{SHDR_SIZE}
@@ -13,6 +14,7 @@ use Rattle.elf_plan.specs.declared.sections.Contents.{Contents}
 use Rattle.elf_plan.specs.FileLayout.{added_ranges}
 use Rattle.elf_plan.specs.NewSections.{adds_ranges, bytes_called, given_bytes}
 use Rattle.elf_make.specs.declared.headers.NewContents.{NewContents}
+use Rattle.elf_make.specs.MadeNames.{HasNames}
 use Rattle.elf_make.specs.PlacedContents.{ArePlaced, bytes_at}
 use Rattle.elf_make.specs.SetHeaders.{AreSet}
 
@@ -57,3 +59,10 @@ pub record ArePut {Y Z : Type 0} (elf : Elf) (tables : List (String Y × Vec ℕ
   pub are_set : AreSet elf tables area shift contents new.section_names.now set
   -- the new code has a section after those of the input
   pub more : length elf.sections.items < length set
+
+-- and the tables of names among them have the names of these cold parts
+pub record ArePutWith {Y Z : Type 0} (elf : Elf) (tables : List (String Y × Vec ℕ Z)) (funcs : List Func)
+    (cold : List ℕ) (area : Area) (shift : Shift) (contents : List Contents) (order : List (ℕ × ℕ)) (base start : ℕ)
+    (tail : List ℕ) (at : ℕ) (headers : List SectionHeader) : Type 0 where
+  pub put : ArePut elf tables area shift contents order base start tail at headers
+  pub names : HasNames elf tables area funcs cold put.new

@@ -15,10 +15,10 @@ use Rattle.elf_plan.specs.declared.sections.Contents.{Contents}
 use Rattle.elf_plan.specs.Area.{area_offset}
 use Rattle.elf_plan.specs.Contents.{is_at, section_bytes}
 use Rattle.elf_plan.specs.NameTables.{place_of_symbols}
+use Rattle.elf_plan.specs.NewNames.{ended}
 use Rattle.elf_plan.specs.NewSections.{adds_ranges}
 use Rattle.elf_plan.specs.OldNames.{is_renamed, old_name}
 use Rattle.elf_plan.specs.TableSizes.{table_size}
-use Rattle.elf_make.specs.NamesAdded.{ended}
 use Rattle.elf_make.specs.PlacedContents.{set_header}
 
 -- all bytes of a table are at the same offsets in another

@@ -1,17 +1,19 @@
 // The section headers of a written file, and the contents after its loaded bytes. gABI, "Section Header".
 ghost use Rattle.std.specs.Prelude.{◌≡◌, ◌≢◌, ◌+◌, ◌-◌, ◌<◌, ◌≤◌, ◌++◌, ℕ, List, All, AllPairs, IfOk, OnOk};
-ghost use Rattle.std.specs.Prelude.{Some, codes, false, length, map, slice_get, slice_index_or};
+ghost use Rattle.std.specs.Prelude.{Some, [], codes, false, flat_map, is_some, length, map, slice_get, slice_index_or};
+ghost use Rattle.std.specs.Option.{option_map_or};
 ghost use Rattle.elf_image.specs.declared.section.Section.{Section};
 ghost use Rattle.elf_image.specs.declared.section.SectionHeader.{SectionHeader};
 ghost use Rattle.elf_image.specs.file.Sections.{section_header};
 ghost use Rattle.elf_plan.specs.Area.{area_offset};
-ghost use Rattle.elf_make.specs.SetHeaders.{Adds, AddsAt, AreAdded, IsNamed, IsRenamed, Keeps};
+ghost use Rattle.elf_make.specs.SetHeaders.{Adds, AddsAt, AreAdded, IsNamed, IsRenamed};
 ghost use Rattle.elf_parts.specs.Patches.{Stands};
 ghost use Rattle.elf_make.specs.PlacedContents.{ArePlaced, IsPlaced, bytes_at, set_header};
 ghost use Rattle.elf_image.specs.faults.Truncation.{IsReadable};
 ghost use Rattle.elf_image.specs.file.Header.{e_shnum};
 ghost use Rattle.elf_plan.specs.FileLayout.{added_ranges};
 ghost use Rattle.elf_plan.specs.Contents.{section_bytes};
+ghost use Rattle.elf_plan.specs.NewNames.{added_names, ended, ended_if, old_ended};
 ghost use Rattle.elf_plan.specs.NewSections.{without_code};
 
 use crate::names::NameTable;
@@ -19,7 +21,7 @@ use crate::tail::{Tail, end_behind};
 use elf_image::entries::SectionTable;
 use elf_image::named::{EH_FRAME, EH_FRAME_HDR};
 use elf_image::relocation::SHT_RELA;
-use elf_image::section::{SHF_ALLOC, SHF_EXECINSTR, SHT_NOBITS, SHT_PROGBITS, SHT_STRTAB};
+use elf_image::section::{SHF_ALLOC, SHF_EXECINSTR, SHT_NOBITS, SHT_PROGBITS};
 use elf_image::{Elf, Section, SectionHeader};
 use elf_plan::area::{Area, Shift};
 use elf_plan::given_tables::{Table, table_size};
@@ -51,7 +53,7 @@ pub struct NewContents<'a> {
 // The offset of the name of `section`: `old`, or that of its new name, which is added to `names`, if it is renamed.
 fn name_of(section: &Section, old: u32, names: &mut NameTable) -> Result<u32, Unwritable>
     ensures named { IfOk result (λ at. IsNamed names.new.bytes.items section.now old at) }
-    ensures keeps { IfOk result (λ at. Keeps names.old.bytes.items names.new.bytes.items) }
+    ensures names { IfOk result (λ at. names.new.bytes.items ≡ names.old.bytes.items ++ old_ended section.now) }
 {
     if !is_renamed(section) {
         return Ok(old);
@@ -66,7 +68,8 @@ fn header_of(elf: &Elf, index: usize, names: &mut NameTable) -> Result<SectionHe
     requires index { index < e_shnum elf.now.file.now }
     ensures renamed { IfOk result (λ header. (s : Section) → slice_get elf.now.sections.items index ≡ Some s →
         IsRenamed names.new.bytes.items s (section_header elf.now.file.now index) header) }
-    ensures keeps { IfOk result (λ header. Keeps names.old.bytes.items names.new.bytes.items) }
+    ensures names { IfOk result (λ header. names.new.bytes.items
+        ≡ names.old.bytes.items ++ option_map_or old_ended (slice_get elf.now.sections.items index) []) }
 {
     let mut header = SectionTable { file: elf.file }.section_of(index);
     match elf.sections.get(index) {
@@ -84,12 +87,14 @@ pub fn old_headers(
     elf: &Elf,
     names: &mut NameTable,
 ) -> Result<Vec<SectionHeader>, Unwritable>
-    requires { IsReadable elf.now.file.now }
+    requires readable { IsReadable elf.now.file.now }
+    requires count { length elf.now.sections.items ≡ e_shnum elf.now.file.now }
     ensures count { IfOk result (λ headers. length headers.items ≡ e_shnum elf.now.file.now) }
     ensures each { IfOk result (λ headers. (k : ℕ) (s : Section) (d : SectionHeader) → k < e_shnum elf.now.file.now →
         slice_get elf.now.sections.items k ≡ Some s → IsRenamed names.new.bytes.items s
         (section_header elf.now.file.now k) (slice_index_or headers.items k d)) }
-    ensures keeps { IfOk result (λ headers. Keeps names.old.bytes.items names.new.bytes.items) }
+    ensures names { IfOk result (λ headers.
+        names.new.bytes.items ≡ names.old.bytes.items ++ flat_map old_ended elf.now.sections.items) }
 {
     let count = SectionTable { file: elf.file }.count();
     let mut headers = Vec::new(alloc);
@@ -112,7 +117,7 @@ fn add_in_area(
 ) -> Result<(), Unwritable>
     ensures adds { OnOk result (Adds names.new.bytes.items text.now flags addr (area_offset area.now addr) size align
         headers.old.items headers.new.items) }
-    ensures keeps { OnOk result (Keeps names.old.bytes.items names.new.bytes.items) }
+    ensures names { OnOk result (names.new.bytes.items ≡ names.old.bytes.items ++ ended text.now) }
 {
     let name = names.add(text, b"")?;
     let offset = area.offset_of(addr)?;
@@ -143,7 +148,8 @@ fn add_table(
 ) -> Result<(), Unwritable>
     ensures adds { OnOk result
         (AddsAt names.new.bytes.items text.now area.now place size align headers.old.items headers.new.items) }
-    ensures keeps { OnOk result (Keeps names.old.bytes.items names.new.bytes.items) }
+    ensures names { OnOk result
+        (names.new.bytes.items ≡ names.old.bytes.items ++ ended_if (is_some place) text.now) }
 {
     match place {
         Some(addr) => add_in_area(headers, names, area, text, SHF_ALLOC, addr, size, align),
@@ -160,7 +166,7 @@ fn add_text(
     ensures adds { OnOk result (Adds names.new.bytes.items (codes ".text") (SHF_ALLOC + SHF_EXECINSTR) area.now.start
         (area_offset area.now area.now.start) (area.now.code_end - area.now.start) 16 headers.old.items
         headers.new.items) }
-    ensures keeps { OnOk result (Keeps names.old.bytes.items names.new.bytes.items) }
+    ensures names { OnOk result (names.new.bytes.items ≡ names.old.bytes.items ++ ended (codes ".text")) }
 {
     let size = area.code_end.saturating_sub(area.start);
     let flags = SHF_ALLOC + SHF_EXECINSTR;
@@ -178,7 +184,8 @@ pub fn area_headers(
 ) -> Result<(), Unwritable>
     ensures added { OnOk result
         (AreAdded names.new.bytes.items tables.now area.now false headers.old.items headers.new.items) }
-    ensures keeps { OnOk result (Keeps names.old.bytes.items names.new.bytes.items) }
+    ensures names { OnOk result
+        (names.new.bytes.items ≡ names.old.bytes.items ++ added_names area.now false) }
 {
     let frames_size = table_size(tables, EH_FRAME).unwrap_or(0) as u64;
     let index_size = table_size(tables, EH_FRAME_HDR).unwrap_or(0) as u64;
@@ -291,11 +298,9 @@ pub fn set_contents(
         Contents::Copied => {}
         Contents::SectionNames | Contents::Symbols | Contents::SymbolNames => {
             header.flags = without_code(header.flags);
-            header.kind = match header.kind {
-                SHT_RELA => SHT_NULL,
-                SHT_NOBITS => SHT_STRTAB,
-                kind => kind,
-            };
+            if header.kind == SHT_RELA {
+                header.kind = SHT_NULL;
+            }
         }
         Contents::Given(_) => {
             if header.kind == SHT_NOBITS {

@@ -6,6 +6,7 @@ ghost use Rattle.elf_image.specs.file.ParsedFile.{IsElfOf};
 ghost use Rattle.addr_map.specs.Spans.{moved};
 ghost use Rattle.elf_parts.specs.Parts.{PartsFit, size_of};
 ghost use Rattle.rv_code.specs.layout.FunctionLists.{AreLaidOut};
+ghost use Rattle.elf_plan.specs.FirstNames.{AreFirstNames};
 ghost use Rattle.elf_plan.specs.Plans.{IsPlanOf};
 ghost use Rattle.elf_make.specs.AreaTables.{IsMadeWith};
 ghost use Rattle.elf_make.specs.CellNumbers.{in_pieces};
@@ -123,10 +124,11 @@ pub fn made(
     requires read { IsElfOf source.now.elf.now.file.now source.now.elf.now }
     requires sound { IsSound source.now.elf.now.file.now }
     requires laid_out { AreLaidOut source.now.funcs.now }
+    requires firsts { AreFirstNames source.now.elf.now.symbols.items source.now.names.now }
     requires cells { All (CanHold source.now.elf.now) emitted.now.cells.items }
     ensures { IfOk result (λ w. IsMadeWith
         (in_pieces (source_of source.now.elf.now emitted.now source.now.map.now source.now.tables.now))
-        source.now.tables.now plan.now.area.tight w.items) }
+        source.now.tables.now source.now.funcs.now source.now.cold.now plan.now.area.tight w.items) }
 {
     let elf = source.elf;
     let layout = Layout::new(alloc, elf, plan, &emitted.code, source.tables)?;

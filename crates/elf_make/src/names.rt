@@ -12,8 +12,7 @@ pub struct NameTable {
 
 impl NameTable {
     ghost use Rattle.std.specs.Prelude.{◌≡◌, ◌++◌, IfOk, length};
-    ghost use Rattle.elf_make.specs.SetHeaders.{Keeps};
-    ghost use Rattle.elf_make.specs.NamesAdded as spec;
+    ghost use Rattle.elf_plan.specs.NewNames.{ended};
 
     /// A table that begins with the bytes `old`.
     pub fn new(alloc: Global, old: &[u8]) -> Result<NameTable, NoMemory>
@@ -23,17 +22,13 @@ impl NameTable {
         Ok(NameTable { bytes })
     }
 
-    /// Adds the name that is `front` and `back` joined, and gives its offset in the table. An empty table gets a zero
-    /// byte first, since the offset 0 is that of the empty name. `TooLarge` if that passes 32 bits.
+    /// Adds the name that is `front` and `back` joined, and gives its offset in the table. `TooLarge` if that passes 32
+    /// bits.
     pub fn add(&mut self, front: &[u8], back: &[u8]) -> Result<u32, Unwritable>
-        ensures place { IfOk result (λ at. at ≡ length (spec.begun self.old.bytes.items)) }
+        ensures place { IfOk result (λ at. at ≡ length self.old.bytes.items) }
         ensures bytes { IfOk result (λ at.
-            self.new.bytes.items ≡ spec.begun self.old.bytes.items ++ spec.ended (front.now ++ back.now)) }
-        ensures keeps { IfOk result (λ at. Keeps self.old.bytes.items self.new.bytes.items) }
+            self.new.bytes.items ≡ self.old.bytes.items ++ ended (front.now ++ back.now)) }
     {
-        if self.bytes.is_empty() {
-            self.bytes.push(0)?;
-        }
         let index = self.bytes.len();
         if index > u32::MAX as usize {
             return Err(Unwritable::TooLarge);

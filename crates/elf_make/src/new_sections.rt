@@ -1,14 +1,17 @@
 // The sections of a written file: their contents after its loaded bytes, and their headers after those.
 ghost use Rattle.std.specs.Prelude.{◌≡◌, ◌≢◌, ◌<◌, ◌≤◌, ◌+◌, ◌*◌, ◌^◌, ℕ, List, All, AllPairs, IfOk, OnOk, length};
-ghost use Rattle.std.specs.Prelude.{Some, codes, false, slice_get, slice_index_or};
+ghost use Rattle.std.specs.Prelude.{◌++◌, codes, false, slice_index_or};
 ghost use Rattle.elf_image.specs.declared.section.Section.{Section};
 ghost use Rattle.elf_image.specs.declared.section.SectionHeader.{SectionHeader};
 ghost use Rattle.elf_plan.specs.declared.sections.Contents.{Contents};
 ghost use Rattle.elf_make.specs.PlacedContents.{set_header};
-ghost use Rattle.elf_make.specs.SetHeaders.{Adds, AreAdded, AreSet, Keeps};
-ghost use Rattle.elf_make.specs.SectionTable.{AreCapped, ArePut, EndsWith};
+ghost use Rattle.elf_make.specs.MadeNames.{HasNames, bytes_of, first_added, second_added};
+ghost use Rattle.elf_make.specs.SetHeaders.{Adds, AreAdded, AreSet};
+ghost use Rattle.elf_make.specs.SectionTable.{AreCapped, ArePutWith, EndsWith};
 ghost use Rattle.elf_parts.specs.Patches.{Stands};
-ghost use Rattle.elf_plan.specs.Contents.{is_at, section_bytes};
+ghost use Rattle.elf_plan.specs.Contents.{is_at};
+ghost use Rattle.elf_plan.specs.FirstNames.{AreFirstNames};
+ghost use Rattle.elf_plan.specs.NewNames.{added_names, cold_names, ended, table_bytes};
 ghost use Rattle.elf_plan.specs.NewSections as spec;
 ghost use Rattle.rv_code.specs.layout.FunctionLists.{AreLaidOut};
 ghost use Rattle.elf_image.specs.faults.Truncation.{IsReadable};
@@ -54,14 +57,14 @@ struct NewNames {
 }
 
 impl NewNames {
-    ghost use Rattle.std.specs.Prelude.{◌≡◌, IfOk, Some, slice_get};
-    ghost use Rattle.elf_image.specs.declared.section.Section.{Section};
-    ghost use Rattle.elf_plan.specs.Contents.{section_bytes};
+    ghost use Rattle.std.specs.Prelude.{◌≡◌, IfOk};
+    ghost use Rattle.elf_plan.specs.NewNames.{table_bytes};
+    ghost use Rattle.elf_make.specs.MadeNames.{bytes_of, second_table, symbol_texts};
 
     fn new(alloc: Global, elf: &Elf, own: &OwnSections) -> Result<NewNames, Unwritable>
-        ensures { IfOk result (λ names. (s : Section) →
-            slice_get elf.now.sections.items own.now.section_names ≡ Some s →
-            names.sections.bytes.items ≡ section_bytes elf.now.file.now s) }
+        ensures sections { IfOk result (λ names.
+            names.sections.bytes.items ≡ table_bytes elf.now own.now.section_names) }
+        ensures symbols { IfOk result (λ names. bytes_of names.symbols ≡ second_table elf.now own.now) }
     {
         let sections = names_at(alloc, elf, own.section_names)?;
         let symbols = match own.symbol_names {
@@ -72,7 +75,9 @@ impl NewNames {
     }
 
     // The bytes of the table with the names of symbols.
-    fn of_symbols(&self) -> &[u8] {
+    fn of_symbols(&self) -> &[u8]
+        ensures { result.now ≡ symbol_texts self.now }
+    {
         match &self.symbols {
             Some(table) => table.bytes(),
             None => self.sections.bytes(),
@@ -82,8 +87,7 @@ impl NewNames {
 
 // A table of names that begins with the bytes of the section at `index`.
 fn names_at(alloc: Global, elf: &Elf, index: usize) -> Result<NameTable, Unwritable>
-    ensures { IfOk result (λ names. (s : Section) → slice_get elf.now.sections.items index ≡ Some s →
-        names.bytes.items ≡ section_bytes elf.now.file.now s) }
+    ensures { IfOk result (λ names. names.bytes.items ≡ table_bytes elf.now index) }
 {
     let section = elf.sections.get(index).ok_or(Unwritable::Layout)?;
     Ok(NameTable::new(alloc, bytes_of(elf.file, section))?)
@@ -100,7 +104,7 @@ fn adds_ranges(elf: &Elf, tables: &[Table]) -> bool
 fn add_ranges(headers: &mut Vec<SectionHeader>, names: &mut NameTable) -> Result<(), Unwritable>
     ensures adds { OnOk result (Adds names.new.bytes.items (codes ".debug_rnglists") 0 0 0 0 1 headers.old.items
         headers.new.items) }
-    ensures keeps { OnOk result (Keeps names.old.bytes.items names.new.bytes.items) }
+    ensures names { OnOk result (names.new.bytes.items ≡ names.old.bytes.items ++ ended (codes ".debug_rnglists")) }
 {
     let name = names.add(DEBUG_RNGLISTS, b"")?;
     headers.push(SectionHeader {
@@ -129,7 +133,8 @@ fn added_headers(
 ) -> Result<(), Unwritable>
     ensures added { OnOk result
         (AreAdded names.new.bytes.items tables.now area.now adds_ranges headers.old.items headers.new.items) }
-    ensures keeps { OnOk result (Keeps names.old.bytes.items names.new.bytes.items) }
+    ensures names { OnOk result
+        (names.new.bytes.items ≡ names.old.bytes.items ++ added_names area.now adds_ranges) }
 {
     area_headers(headers, area, tables, names)?;
     if !adds_ranges {
@@ -147,8 +152,14 @@ fn added_symbols(
     code: &NewCode,
     names: &mut NewNames,
 ) -> Result<Vec<SymbolEntry>, Unwritable>
-    requires { AreLaidOut code.now.funcs.now }
-    ensures { IfOk result (λ entries. Keeps names.old.sections.bytes.items names.new.sections.bytes.items) }
+    requires laid_out { AreLaidOut code.now.funcs.now }
+    requires firsts { AreFirstNames source.now.elf.now.symbols.items source.now.names.now }
+    ensures first { IfOk result (λ entries. names.new.sections.bytes.items
+        ≡ names.old.sections.bytes.items ++ first_added own.now.symbol_names (bytes_of names.old.symbols)
+        (cold_names source.now.elf.now.symbols.items code.now.funcs.now source.now.cold.now)) }
+    ensures second { IfOk result (λ entries. bytes_of names.new.symbols
+        ≡ second_added own.now.symbol_names (bytes_of names.old.symbols)
+        (cold_names source.now.elf.now.symbols.items code.now.funcs.now source.now.cold.now)) }
 {
     if own.symbol_names.is_none() {
         return Ok(Vec::new(alloc));
@@ -169,13 +180,20 @@ fn new_symbols(
     headers: &mut [SectionHeader],
     text: u16,
 ) -> Result<Vec<u8>, Unwritable>
-    requires { AreLaidOut source.now.funcs.now }
+    requires laid_out { AreLaidOut source.now.funcs.now }
+    requires firsts { AreFirstNames source.now.elf.now.symbols.items source.now.names.now }
+    requires own { IsOwnOf source.now.elf.now own.now }
     ensures count { length headers.new ≡ length headers.old }
     ensures same { (k : ℕ) (d : SectionHeader) → slice_index_or headers.new k d
         ≡ record (slice_index_or headers.old k d) { info = (slice_index_or headers.new k d).info } }
     ensures others { (k : ℕ) (d : SectionHeader) → is_at k own.now.symbols ≡ false →
         slice_index_or headers.new k d ≡ slice_index_or headers.old k d }
-    ensures keeps { IfOk result (λ bytes. Keeps names.old.sections.bytes.items names.new.sections.bytes.items) }
+    ensures first { IfOk result (λ bytes. names.new.sections.bytes.items
+        ≡ names.old.sections.bytes.items ++ first_added own.now.symbol_names (bytes_of names.old.symbols)
+        (cold_names source.now.elf.now.symbols.items source.now.funcs.now source.now.cold.now)) }
+    ensures second { IfOk result (λ bytes. bytes_of names.new.symbols
+        ≡ second_added own.now.symbol_names (bytes_of names.old.symbols)
+        (cold_names source.now.elf.now.symbols.items source.now.funcs.now source.now.cold.now)) }
 {
     let Some(index) = own.symbols else {
         return Ok(Vec::new(alloc));
@@ -233,11 +251,13 @@ fn put_contents(
     requires ranges { new.now.ranges.now ≡ spec.bytes_called source.now.tables.now (codes ".debug_rnglists") }
     requires set { AreSet source.now.elf.now source.now.tables.now plan.now.area plan.now.shift plan.now.contents.items
         new.now.section_names.now headers.old }
+    requires names { HasNames source.now.elf.now source.now.tables.now plan.now.area source.now.funcs.now
+        source.now.cold.now new.now }
     ensures base { IfOk result (λ at. tail.new.base ≡ tail.old.base) }
     ensures count { IfOk result (λ at. length headers.new ≡ length headers.old) }
-    ensures put { IfOk result (λ at. ArePut source.now.elf.now source.now.tables.now plan.now.area plan.now.shift
-        plan.now.contents.items plan.now.order.items tail.old.base (tail.old.base + length tail.old.bytes.items)
-        tail.new.bytes.items at headers.new) }
+    ensures put { IfOk result (λ at. ArePutWith source.now.elf.now source.now.tables.now source.now.funcs.now
+        source.now.cold.now plan.now.area plan.now.shift plan.now.contents.items plan.now.order.items tail.old.base
+        (tail.old.base + length tail.old.bytes.items) tail.new.bytes.items at headers.new) }
 {
     check_end(source.elf, &plan.contents, &plan.order, new, tail.end()?)?;
     place_all(
@@ -263,15 +283,16 @@ pub fn put(
     requires own { IsOwnOf source.now.elf.now plan.now.own }
     requires readable { IsReadable source.now.elf.now.file.now }
     requires laid_out { AreLaidOut source.now.funcs.now }
+    requires firsts { AreFirstNames source.now.elf.now.symbols.items source.now.names.now }
     requires count { length source.now.elf.now.sections.items ≡ e_shnum source.now.elf.now.file.now }
     requires contents { length plan.now.contents.items ≡ length source.now.elf.now.sections.items }
     requires within { All (λ e. e.1 < e_shnum source.now.elf.now.file.now) plan.now.order.items }
     requires distinct { AllPairs (λ e f. e.1 ≢ f.1) plan.now.order.items }
     ensures names { IfOk result (λ new. new.names ≡ e_shstrndx source.now.elf.now.file.now) }
     ensures base { IfOk result (λ new. tail.new.base ≡ tail.old.base) }
-    ensures put { IfOk result (λ new. ArePut source.now.elf.now source.now.tables.now plan.now.area plan.now.shift
-        plan.now.contents.items plan.now.order.items tail.old.base (tail.old.base + length tail.old.bytes.items)
-        tail.new.bytes.items new.section_headers_at new.headers.items) }
+    ensures put { IfOk result (λ new. ArePutWith source.now.elf.now source.now.tables.now source.now.funcs.now
+        source.now.cold.now plan.now.area plan.now.shift plan.now.contents.items plan.now.order.items tail.old.base
+        (tail.old.base + length tail.old.bytes.items) tail.new.bytes.items new.section_headers_at new.headers.items) }
 {
     check_sizes(source, &plan.contents)?;
     let mut names = NewNames::new(alloc, source.elf, &plan.own)?;

@@ -1,7 +1,9 @@
 // The symbol table of a written file. gABI, "Symbol Table".
-ghost use Rattle.std.specs.Prelude.{IfOk};
+ghost use Rattle.std.specs.Prelude.{◌≡◌, ◌++◌, IfOk, List};
+ghost use Rattle.elf_image.specs.declared.symbol.Symbol.{Symbol};
 ghost use Rattle.rv_code.specs.layout.FunctionLists.{AreLaidOut};
-ghost use Rattle.elf_make.specs.SetHeaders.{Keeps};
+ghost use Rattle.elf_plan.specs.FirstNames.{AreFirstNames};
+ghost use Rattle.elf_plan.specs.NewNames.{cold_names};
 
 use crate::names::NameTable;
 use addr_map::AddrMap;
@@ -83,7 +85,7 @@ impl<'a> NewCode<'a> {
 }
 
 /// The symbols of the cold parts that begin at the addresses `cold` of the input, with their names added to `table`. A
-/// part of a function without a name gets none.
+/// part of a function without a name gets none. `Layout` if the first instruction of a part isn't in the map.
 pub fn cold_symbols(
     alloc: Global,
     names: &BTreeMap<u64, Symbol>,
@@ -92,15 +94,15 @@ pub fn cold_symbols(
     table: &mut NameTable,
 ) -> Result<Vec<SymbolEntry>, Unwritable>
     requires { AreLaidOut code.now.funcs.now }
-    ensures { IfOk result (λ entries. Keeps table.old.bytes.items table.new.bytes.items) }
+    ensures names { IfOk result (λ entries. (symbols : List Symbol) → AreFirstNames symbols names.now →
+        table.new.bytes.items ≡ table.old.bytes.items ++ cold_names symbols code.now.funcs.now cold.now) }
 {
     let mut entries = Vec::new(alloc);
     for address in cold {
         if let Some(symbol) = named_around(names, code.funcs, *address) {
             let name = table.add(symbol.name, b".cold")?;
-            if let Some(entry) = code.cold_entry(*address, name) {
-                entries.push(entry)?;
-            }
+            let entry = code.cold_entry(*address, name);
+            entries.push(entry.ok_or(Unwritable::Layout)?)?;
         }
     }
     Ok(entries)

@@ -14,6 +14,7 @@ pub mod LoadedRanges
 pub mod NameTables
 pub mod NameWeight
 pub mod NewAreas
+pub mod NewNames
 pub mod NewSections
 pub mod NewSegments
 pub mod OldNames

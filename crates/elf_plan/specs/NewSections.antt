@@ -7,7 +7,7 @@ use Rattle.rv_code.specs.isa.Op.{flag}
 use Rattle.elf_image.specs.declared.elf.Elf.{Elf}
 use Rattle.elf_image.specs.declared.section.Section.{Section}
 use Rattle.elf_image.specs.declared.relocation.TheConstants.{SHT_RELA}
-use Rattle.elf_image.specs.declared.section.TheConstants.{SHT_NOBITS, SHT_PROGBITS, SHT_STRTAB, SHF_ALLOC}
+use Rattle.elf_image.specs.declared.section.TheConstants.{SHT_NOBITS, SHT_PROGBITS, SHF_ALLOC}
 use Rattle.elf_image.specs.declared.section.TheConstants.{SHF_EXECINSTR}
 use Rattle.elf_image.specs.file.Header.{e_shstrndx}
 use Rattle.elf_image.specs.file.SectionNames.{is_loaded, names_debug, section_called}
@@ -83,12 +83,12 @@ pub record HasNewContents (w bytes : List ℕ) (kind : ℕ) (s n : Section) : Ty
   pub same : KeepsHeader s n
   pub contents : HoldsContents w bytes n
 
--- Tables of symbols and names have no instructions, and have contents.
+-- Tables of symbols and names have no instructions, and no relocations.
 abbrev pub without_code : ℕ → ℕ
 without_code flags = if holds_code flags then flags - SHF_EXECINSTR else flags
 
 abbrev pub kind_of_own : ℕ → ℕ
-kind_of_own kind = if kind == SHT_RELA then SHT_NULL else if kind == SHT_NOBITS then SHT_STRTAB else kind
+kind_of_own kind = if kind == SHT_RELA then SHT_NULL else kind
 
 pub record IsOwn (s n : Section) : Type 0 where
   pub fields : KeepsFields s n

@@ -69,9 +69,9 @@ fn written(
 /// parts that get a name, `emitted` the new code and the new contents of code cells, and `tables` the contents of
 /// tables that are rewritten, by the names of their sections.
 ///
-/// What is written is read back, so no file is ever answered that the reader refuses, or whose names or symbols aren't
-/// what they must be. Sections, program headers and layout aren't compared: what they are is proved where they are
-/// made. Where no file can be written, for whichever reason of [`Unwritable`], out of memory is answered.
+/// What is written is read back, so no file is ever answered that the reader refuses, or whose symbols aren't what they
+/// must be. Sections, names, program headers and layout aren't compared: what they are is proved where they are made.
+/// Where no file can be written, for whichever reason of [`Unwritable`], out of memory is answered.
 pub fn write(
     alloc: Global,
     elf: &Elf,

@@ -1,5 +1,4 @@
-use Rattle.std.proofs.Common.{◌≡◌, subst, sym, ℕ, List, Bool, Result, Ok, Err}
-use Rattle.std.specs.Prelude.{IfOk}
+use Rattle.std.proofs.Common.{◌≡◌, subst, sym, ℕ, List}
 use Rattle.std.proofs.lemmas.Result.{IfOk-weaker}
 use Rattle.elf_image.specs.faults.Truncation.{IsReadable}
 use Rattle.elf_image.specs.file.ParsedFile.{IsElfOf}
@@ -10,21 +9,15 @@ use Rattle.elf_plan.specs.Area.{shift_of}
 use Rattle.elf_plan.specs.FileLayout.{HasFileLayout}
 use Rattle.elf_plan.specs.HeaderPlaces.{HasNewHeaders}
 use Rattle.elf_plan.specs.NewSections.{AreNewSections}
-use Rattle.elf_check.specs.NewNames.{HaveNewNames}
+use Rattle.elf_plan.specs.NewNames.{HaveNewNames}
 use Rattle.elf_check.specs.EntryNames.WasRead.{was_read}
 use Rattle.elf_check.proofs.read_back.is_accepted.Goals as goal
 
-pub has_new_tables-requires-clause-new : goal.has_new_tables-requires-clause-new
-has_new_tables-requires-clause-new c =
+pub has_symbols-requires-clause-new : goal.has_symbols-requires-clause-new
+has_symbols-requires-clause-new c =
     let same = sym c.in-Ok.ensures.fields.file_is in
     was_read (subst IsReadable same c.in-Ok.ensures.readable)
     (subst (λ (f : List ℕ). IsElfOf f c.in-Ok.found) same c.in-Ok.ensures.fields)
-
--- both of them of one answer
-together : {E : Type 0} (r : Result Bool E) (P Q R : Bool → Type 0) → ((b : Bool) → P b → Q b → R b) → IfOk r P → IfOk r Q →
-    IfOk r R
-together (Ok b) P Q R gives p q = gives b p q
-together (Err e) P Q R gives p q = record {}
 
 -- what holds of the area and the shift of a plan holds of those that must be
 settled : (segments : List Segment) (made area : Area) (shift : Shift) (P : Area → Shift → Type 0) → made ≡ area →
@@ -39,8 +32,8 @@ returns-in-Ok-clause-tables c =
     let tables = source.tables.now in
     let plan = c.args.plan.now in
     let new = c.in-Ok.found in
-    together c.has_new_tables.result _ _ _
-    (λ b names symbols holds code is sections headers layout. record {
+    IfOk-weaker c.has_symbols.result _ _
+    (λ b symbols holds code is sections headers layout names. record {
       new = new;
       read = c.in-Ok.ensures.fields;
       sections = settled elf.segments.items plan.area _ plan.shift (λ a s. AreNewSections elf new tables a s code) is.area
@@ -48,13 +41,14 @@ returns-in-Ok-clause-tables c =
           (sections new c.in-Ok.ensures.fields);
       headers = settled elf.segments.items plan.area _ plan.shift (HasNewHeaders elf new tables) is.area is.shift
           (headers new c.in-Ok.ensures.fields);
-      names = subst (λ (a : Area). HaveNewNames elf new tables a source.funcs.now source.cold.now) is.area (names holds);
+      names = subst (λ (a : Area). HaveNewNames elf new tables a source.funcs.now source.cold.now) is.area
+          (names new c.in-Ok.ensures.fields);
       symbols = symbols holds;
       layout = settled elf.segments.items plan.area _ plan.shift (HasFileLayout elf new tables) is.area is.shift
           (layout new c.in-Ok.ensures.fields);
     })
-    c.has_new_tables.ensures.names c.has_new_tables.ensures.symbols
+    c.has_symbols.ensures
 
 pub returns-in-Ok-clause-sound : goal.returns-in-Ok-clause-sound
 returns-in-Ok-clause-sound c =
-    IfOk-weaker c.has_new_tables.result _ _ (λ holds symbols is. c.in-Ok.ensures.sound) c.has_new_tables.ensures.symbols
+    IfOk-weaker c.has_symbols.result _ _ (λ holds symbols is. c.in-Ok.ensures.sound) c.has_symbols.ensures

@@ -1,8 +1,11 @@
-use Rattle.std.proofs.Common.{◌≡◌, ◌∙◌, ap, subst, ℕ, ◌≤◌, List, get_or, length, arith, rules}
-use Rattle.std.proofs.lemmas.Option.{get_or_from_slice_get, slice_get_within}
+use Rattle.std.proofs.Common.{◌≡◌, ◌∙◌, sym, ap, subst, ℕ, ◌≤◌, ◌<◌, List, [], ◌++◌, Option, Some, append-nil, get_or, length}
+use Rattle.std.proofs.Common.{arith, rules}
+use Rattle.std.specs.Option.{option_map_or}
+use Rattle.std.proofs.lemmas.Option.{get_or_from_slice_get, slice_get-get_or, slice_get_past, slice_get_within}
 use Rattle.elf_image.specs.declared.section.Section.{Section}
 use Rattle.elf_image.specs.declared.section.SectionHeader.{SectionHeader}
 use Rattle.elf_image.specs.file.Sections.{section_header}
+use Rattle.elf_plan.specs.NewNames.{old_ended}
 use Rattle.elf_make.specs.SetHeaders.{IsNamed}
 use Rattle.elf_make.proofs.headers.header_of.Goals as goal
 
@@ -29,3 +32,22 @@ returns-in-None-clause-renamed c = λ s at_s.
     let low = slice_get_within sections c.args.index s at_s in
     let past : length sections ≤ c.args.index = search rules in
     absurd (omega (arith, low, past))
+
+pub returns-in_ok-header-in-Some-clause-names : goal.returns-in_ok-header-in-Some-clause-names
+returns-in_ok-header-in-Some-clause-names c =
+    let sections = c.args.elf.now.sections.items in
+    let i = c.args.index in
+    let found : Section = c.in-Some.section.now in
+    let here : found ≡ get_or sections i found = search rules in
+    let inside : i < length sections = search rules in
+    c.in_ok-header-in-Some.ensures.names
+    ∙ ap (λ (o : Option Section). c.args.names.now.bytes.items ++ option_map_or old_ended o [])
+    (sym (slice_get-get_or sections i found inside ∙ ap (λ (s : Section). Some s) (sym here)))
+
+pub returns-in-None-clause-names : goal.returns-in-None-clause-names
+returns-in-None-clause-names c =
+    let sections = c.args.elf.now.sections.items in
+    let past : length sections ≤ c.args.index = search rules in
+    sym (append-nil c.args.names.now.bytes.items)
+    ∙ ap (λ (o : Option Section). c.args.names.now.bytes.items ++ option_map_or old_ended o [])
+    (sym (slice_get_past sections c.args.index past))

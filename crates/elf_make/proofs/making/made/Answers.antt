@@ -1,5 +1,5 @@
-use Rattle.std.proofs.Common.{◌≡◌, ◌∙◌, sym, subst, ap, ℕ, ◌+◌, ◌^◌, ◌<◌, List, length, map, rules}
-use Rattle.std.specs.Prelude.{All, codes, unwrap_or}
+use Rattle.std.proofs.Common.{◌≡◌, ◌∙◌, sym, subst, ap, ℕ, ◌+◌, ◌^◌, ◌<◌, false, List, Option, length, map, rules}
+use Rattle.std.specs.Prelude.{All, IfSome, codes, unwrap_or}
 use Rattle.std.proofs.lemmas.Result.{IfOk-weaker}
 use Rattle.elf_image.specs.declared.elf.Elf.{Elf}
 use Rattle.elf_image.specs.declared.segment.Segment.{Segment}
@@ -16,7 +16,7 @@ use Rattle.elf_plan.specs.Homes.{AreContents}
 use Rattle.elf_plan.specs.NameTables.{place_of_symbols}
 use Rattle.elf_plan.specs.Plans.{Arranges}
 use Rattle.elf_plan.specs.TableSizes.{table_size}
-use Rattle.elf_make.specs.SectionTable.{ArePut}
+use Rattle.elf_make.specs.SectionTable.{ArePutWith}
 use Rattle.elf_make.specs.CellNumbers.{AreCellNumbers, pieces}
 use Rattle.elf_make.specs.FileParts.{IsLaidOut, IsPut, IsTablePlace, start_after}
 use Rattle.elf_make.specs.Source.{Source, source_of}
@@ -66,7 +66,8 @@ returns c =
     let place = c.in_ok-program_headers_at.ensures in
     let start : ℕ → ℕ = start_after elf layout.area layout.shift in
     let PutIn : Area → Shift → ℕ → ℕ → ℕ → Type 0 = λ a h b from to.
-    ArePut elf tables a h plan.contents.items plan.order.items b from tail to headers in
+    ArePutWith elf tables c.args.source.now.funcs.now c.args.source.now.cold.now a h plan.contents.items plan.order.items b
+    from tail to headers in
     let Put : ℕ → ℕ → ℕ → Type 0 = PutIn layout.area layout.shift in
     let put_of : PutIn layout.area layout.shift c.table_place.new.tail.base
     (c.table_place.new.tail.base + length c.table_place.new.tail.bytes.items) c.in_ok-sections.sections.section_headers_at =
@@ -147,11 +148,16 @@ returns c =
         apart =
             sym (ap (λ (i : ℕ). is_at i (place_of_symbols elf)) c.requires.plan.own.names)
             ∙ sym (ap (is_at plan.own.section_names) c.requires.plan.own.symbols) ∙ c.requires.plan.own.apart;
+        names_apart =
+            subst (λ (o : Option ℕ). IfSome o (λ i. is_at i (place_of_symbols elf) ≡ false)) c.requires.plan.own.symbol_names
+            (subst (λ (o : Option ℕ). IfSome plan.own.symbol_names (λ i. is_at i o ≡ false)) c.requires.plan.own.symbols
+            c.requires.plan.own.names_apart);
         headers = c.in_ok-sections.sections.headers.items;
         count = c.in_ok-header.ensures.sections;
-        put = put_in;
+        put = put_in.put;
         segments = placed;
       };
+      names = put_in.names;
     })
     c.put_together.ensures
 

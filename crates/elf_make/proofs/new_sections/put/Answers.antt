@@ -1,16 +1,20 @@
-use Rattle.std.proofs.Common.{◌≡◌, ◌∙◌, sym, ap, subst, ℕ, ◌+◌, ◌≤◌, ◌<◌, ◌++◌, List, Bool, false, Some, length, drop, take, get_or}
+use Rattle.std.proofs.Common.{◌≡◌, ◌∙◌, sym, ap, subst, refl, ℕ, ◌+◌, ◌≤◌, ◌<◌, ◌++◌, List, [], Bool, false, Option, Some, length}
+use Rattle.std.proofs.Common.{drop, take, get_or}
 use Rattle.std.proofs.Common.{slice_get, arith, rules}
+use Rattle.std.specs.Option.{option_map_or}
 use Rattle.elf_image.specs.declared.section.SectionHeader.{SectionHeader}
 use Rattle.elf_image.specs.declared.section.Section.{Section}
 use Rattle.elf_plan.specs.declared.area.Area.{Area}
 use Rattle.elf_plan.specs.declared.area.Shift.{Shift}
 use Rattle.elf_plan.specs.declared.sections.Contents.{Contents}
-use Rattle.elf_plan.specs.Contents.{is_at}
+use Rattle.elf_plan.specs.Contents.{is_at, section_bytes}
+use Rattle.elf_plan.specs.NewNames.{added_names}
 use Rattle.elf_plan.specs.NewSections.{adds_ranges}
 use Rattle.elf_make.specs.PlacedContents.{set_header}
 use Rattle.elf_make.specs.SetHeaders.{AreAdded, AreSet, Keeps}
-use Rattle.elf_make.specs.SectionTable.{ArePut}
-use Rattle.elf_make.proofs.GrownNames.{all-more}
+use Rattle.elf_make.specs.SectionTable.{ArePutWith}
+use Rattle.elf_make.proofs.AddedNames.{names-made}
+use Rattle.elf_make.proofs.GrownNames.{added-keeps, all-more}
 use Rattle.elf_make.proofs.HeadersSet.{headers-set, written-over}
 use Rattle.elf_make.proofs.new_sections.put.Goals as goal
 
@@ -60,8 +64,9 @@ returns-clause-put c =
     let len : long ≡ length added = search rules in
     let full : long ≡ length new = omega (arith, len, lent, same, lent-2, all, lent-3, last) in
     let seam : take long (new ++ drop (length new) before) ≡ new = written-over long new before full in
-    subst (λ (headers : List SectionHeader). ArePut c.args.source.now.elf.now c.args.source.now.tables.now
-    c.args.plan.now.area c.args.plan.now.shift c.args.plan.now.contents.items c.args.plan.now.order.items c.args.tail.now.base
+    subst (λ (headers : List SectionHeader). ArePutWith c.args.source.now.elf.now c.args.source.now.tables.now
+    c.args.source.now.funcs.now c.args.source.now.cold.now c.args.plan.now.area c.args.plan.now.shift
+    c.args.plan.now.contents.items c.args.plan.now.order.items c.args.tail.now.base
     (c.args.tail.now.base + length c.args.tail.now.bytes.items) c.put_contents.new.tail.bytes.items
     c.in_ok-section_headers_at.section_headers_at headers) (sym seam) c.in_ok-section_headers_at.ensures.put
 
@@ -101,8 +106,9 @@ put_contents-requires-clause-set c =
     let are = subst (λ (b : Bool). AreAdded t2 tables area b olds added) ranges c.in_ok-added_headers.ensures.added in
     let more = all-more _ _ _ _ _ _ c.in_ok-added_headers.ensures.added in
     let done : AreSet elf tables area shift contents t3 set =
-    headers-set elf tables area shift contents plan.own.symbols t1 t2 t3 c.in_ok-added_headers.ensures.keeps
-    c.in_ok-symbols.ensures.keeps olds added symbols set c.requires.own.symbols c.requires.count c.requires.contents
+    headers-set elf tables area shift contents plan.own.symbols t1 t2 t3
+    (added-keeps t1 _ t2 c.in_ok-added_headers.ensures.names) (added-keeps t2 _ t3 c.in_ok-symbols.ensures.first)
+    olds added symbols set c.requires.own.symbols c.requires.count c.requires.contents
     c.in_ok-headers.ensures.count c.in_ok-headers.ensures.each are (same ∙ count_lent)
     (subst (λ (hs : List SectionHeader). (k : ℕ) (d : SectionHeader) → get_or symbols k d
     ≡ record (get_or hs k d) { info = (get_or symbols k d).info }) lent c.new_symbols.ensures.same)
@@ -125,7 +131,21 @@ put_contents-requires-clause-set c =
     get_or set k h ≡ get_or c.deref_mut-2.result.now k h) is_contents c.set_all_contents.ensures.others))
     (omega (arith, more))
     (λ s at. subst (λ (table : List ℕ). Keeps table t1)
-    (c.in_ok-names.ensures s (subst (λ (i : ℕ). slice_get sections i ≡ Some s) (sym c.requires.own.names) at))
-    c.in_ok-headers.ensures.keeps) in
+    (c.in_ok-names.ensures.sections
+    ∙ ap (λ (o : Option Section). option_map_or (section_bytes elf.file.now) o [])
+    (ap (slice_get sections) c.requires.own.names ∙ at))
+    (added-keeps t0 _ t1 c.in_ok-headers.ensures.names)) in
     subst (λ (table : List ℕ). AreSet elf tables area shift contents table c.deref_mut-3.result.now) (sym names)
     (subst (AreSet elf tables area shift contents t3) (sym lent-3) done)
+
+pub put_contents-requires-clause-names : goal.put_contents-requires-clause-names
+put_contents-requires-clause-names c =
+    let source = c.args.source.now in
+    let t1 : List ℕ = c.old_headers.new.names.bytes.items in
+    names-made source.elf.now source.tables.now c.args.plan.now.area source.funcs.now source.cold.now c.args.plan.now.own _ _
+    c.in_ok-names.names.sections.bytes.items t1 c.added_headers.new.names.bytes.items
+    c.new_symbols.new.names.sections.bytes.items c.of_symbols.result.now _ c.requires.own c.in_ok-names.ensures.sections
+    c.in_ok-names.ensures.symbols c.in_ok-headers.ensures.names
+    (c.in_ok-added_headers.ensures.names
+    ∙ ap (λ (b : Bool). t1 ++ added_names c.args.plan.now.area b) c.adds_ranges-adds_ranges.ensures)
+    c.in_ok-symbols.ensures.first c.in_ok-symbols.ensures.second c.of_symbols.ensures c.bytes.ensures refl

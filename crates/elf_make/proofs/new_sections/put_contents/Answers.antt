@@ -32,25 +32,28 @@ returns-clause-put c =
     let based = c.in_ok-place_all.ensures.base in
     let also = c.in_ok-place.ensures.base ∙ based in
     record {
-      new = new;
-      front = front;
-      keeps = c.in_ok-place.ensures.keeps;
-      set = set;
-      placed = placed;
-      given = λ t. ap (λ (tables : List (String Global × Vec ℕ Global)). given_bytes tables t) c.requires.tables;
-      ranges = c.requires.ranges;
-      are_set = c.requires.set;
-      are_placed = subst (λ (b : Bool). ArePlaced (bytes_at new elf c.args.plan.now.contents.items)
-          (map (λ (e : ℕ × ℕ). e.1) c.args.plan.now.order.items ++ added_ranges b (length set)) base start front set placed)
-          c.requires.adds
-          (subst (λ (cs : List Contents). ArePlaced (bytes_at new elf cs)
-          (map (λ (e : ℕ × ℕ). e.1) c.args.plan.now.order.items ++ added_ranges c.args.adds_ranges (length set)) base start front
-          set placed) c.deref-3.ensures.value
-          (subst (λ (os : List (ℕ × ℕ)). ArePlaced (bytes_at new elf c.deref-3.result.now)
-          (map (λ (e : ℕ × ℕ). e.1) os ++ added_ranges c.args.adds_ranges (length set)) base start front set placed)
-          c.deref-4.ensures.value c.in_ok-place_all.ensures.placed));
-      count = c.in_ok-place.ensures.count;
-      are_capped = subst (λ (b : ℕ). AreCapped (b + length tail) placed headers) also c.in_ok-place.ensures.capped;
-      ends = subst (λ (b : ℕ). EndsWith b (b + length front) tail c.in_ok-place.place headers) based c.in_ok-place.ensures.ends;
-      more = c.requires.more;
+      names = c.requires.names;
+      put = record {
+        new = new;
+        front = front;
+        keeps = c.in_ok-place.ensures.keeps;
+        set = set;
+        placed = placed;
+        given = λ t. ap (λ (tables : List (String Global × Vec ℕ Global)). given_bytes tables t) c.requires.tables;
+        ranges = c.requires.ranges;
+        are_set = c.requires.set;
+        are_placed = subst (λ (b : Bool). ArePlaced (bytes_at new elf c.args.plan.now.contents.items)
+            (map (λ (e : ℕ × ℕ). e.1) c.args.plan.now.order.items ++ added_ranges b (length set)) base start front set placed)
+            c.requires.adds
+            (subst (λ (cs : List Contents). ArePlaced (bytes_at new elf cs)
+            (map (λ (e : ℕ × ℕ). e.1) c.args.plan.now.order.items ++ added_ranges c.args.adds_ranges (length set)) base start front
+            set placed) c.deref-3.ensures.value
+            (subst (λ (os : List (ℕ × ℕ)). ArePlaced (bytes_at new elf c.deref-3.result.now)
+            (map (λ (e : ℕ × ℕ). e.1) os ++ added_ranges c.args.adds_ranges (length set)) base start front set placed)
+            c.deref-4.ensures.value c.in_ok-place_all.ensures.placed));
+        count = c.in_ok-place.ensures.count;
+        are_capped = subst (λ (b : ℕ). AreCapped (b + length tail) placed headers) also c.in_ok-place.ensures.capped;
+        ends = subst (λ (b : ℕ). EndsWith b (b + length front) tail c.in_ok-place.place headers) based c.in_ok-place.ensures.ends;
+        more = c.requires.more;
+      };
     }

@@ -1,5 +1,10 @@
-use Rattle.elf_make.specs.SetHeaders.{Keeps}
+use Rattle.std.proofs.Common.{◌≡◌, ◌++◌, List, take}
+use Rattle.elf_image.specs.declared.symbol.Symbol.{Symbol}
+use Rattle.elf_plan.specs.FirstNames.{AreFirstNames}
+use Rattle.elf_plan.specs.NewNames.{cold_names}
 use Rattle.elf_make.proofs.symbols.cold_symbols.Given as goal
 
 abbrev pub invariant-loop-address : goal.invariant-loop-address
-invariant-loop-address l = Keeps l.initial.table.bytes.items l.table.bytes.items
+invariant-loop-address l = (symbols : List Symbol) → AreFirstNames symbols l.names →
+    l.table.bytes.items
+    ≡ l.initial.table.bytes.items ++ cold_names symbols l.code.funcs.now (take l.address-index l.cold)

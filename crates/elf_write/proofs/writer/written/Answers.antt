@@ -13,6 +13,7 @@ use Rattle.elf_image.specs.declared.symbol.Symbol.{Symbol}
 use Rattle.elf_plan.specs.FirstNames.{AreFirstNames}
 use Rattle.elf_plan.specs.FragmentLists.{AreFragments}
 use Rattle.elf_plan.specs.AreaStands.{AreaStands}
+use Rattle.elf_plan.specs.NewNames.{HaveNewNames}
 use Rattle.elf_plan.specs.NewSections.{AreNewSections}
 use Rattle.elf_make.specs.CellNumbers.{in_pieces}
 use Rattle.elf_check.specs.EntryNames.WasRead.{was_read}
@@ -24,6 +25,7 @@ use Rattle.elf_make.proofs.CellPieces.{pieces_apart, pieces_can}
 use Rattle.elf_make.proofs.CodeWritten.{area-written}
 use Rattle.elf_make.proofs.HeadersRead.{headers-read}
 use Rattle.elf_make.proofs.LayoutRead.{layout-read}
+use Rattle.elf_make.proofs.NamesMade.{names-read}
 use Rattle.elf_make.proofs.PiecesWritten.{placed_in_pieces, written_in_pieces}
 use Rattle.elf_make.proofs.SoundFiles.{readable}
 use Rattle.elf_make.proofs.SectionsMade.{sections-read}
@@ -51,6 +53,10 @@ pub is_accepted-requires-clause-fragments : goal.is_accepted-requires-clause-fra
 is_accepted-requires-clause-fragments c =
     subst (λ (fragments : List Fragment). AreFragments c.args.funcs.now c.args.map.now fragments)
     (sym c.deref-2.ensures.value) c.in_ok-fragments.ensures
+
+pub made-requires-clause-firsts : goal.made-requires-clause-firsts
+made-requires-clause-firsts c =
+    subst (λ (symbols : List Symbol). AreFirstNames symbols c.in_ok-names.names) c.deref.ensures.value c.in_ok-names.ensures
 
 pub is_accepted-requires-clause-firsts : goal.is_accepted-requires-clause-firsts
 is_accepted-requires-clause-firsts c =
@@ -102,6 +108,7 @@ returns-clause-tables c = λ tight placed.
     ((new : Elf) → IsElfOf f new → AreNewSections elf new tables plan.area plan.shift bs) →
     ((new : Elf) → IsElfOf f new → HasNewHeaders elf new tables plan.area plan.shift) →
     ((new : Elf) → IsElfOf f new → HasFileLayout elf new tables plan.area plan.shift) →
+    ((new : Elf) → IsElfOf f new → HaveNewNames elf new tables plan.area funcs cold) →
     HasNewTables elf tables bs funcs cold spans above f in
     let found : Accepts w = subst Accepts c.deref-4.ensures.value (c.in_ok-is_accepted.ensures.tables c.if-not-branch.false) in
     subst (λ (t : Bool). HasNewTables elf tables code funcs cold spans t w) there
@@ -111,4 +118,6 @@ returns-clause-tables c = λ tight placed.
     (λ new read. planned_by (HasNewHeaders elf new tables)
     (headers-read s above w c.requires.read c.requires.sound made.made can tables made.sections new read))
     (λ new read. planned_by (HasFileLayout elf new tables)
-    (layout-read s above w c.requires.read c.requires.sound made.made can tables made.sections new read)))
+    (layout-read s above w c.requires.read c.requires.sound made.made can tables made.sections new read))
+    (λ new read. planned_by (λ a h. HaveNewNames elf new tables a funcs cold)
+    (names-read s above w c.requires.read c.requires.sound made.made can tables made.sections new read funcs cold made.names)))

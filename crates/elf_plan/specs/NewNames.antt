@@ -1,7 +1,7 @@
 -- The tables of names of a written file: those that were there, and after them the names that are added. gABI, "String
 -- Table".
-use Rattle.std.specs.Prelude.{◌≡◌, ◌≢◌, ℕ, ◌==◌, ◌&&◌, nat_lt, if◌then◌else◌, is_some, Bool, List, Option, [], ◌∷◌}
-use Rattle.std.specs.Prelude.{◌++◌, IfSome, String, Vec, codes, flat_map, length, slice_get}
+use Rattle.std.specs.Prelude.{◌≡◌, ◌≢◌, ℕ, if◌then◌else◌, is_some, Bool, List, Option, [], ◌∷◌, ◌++◌, IfSome, String}
+use Rattle.std.specs.Prelude.{Vec, codes, flat_map, slice_get}
 use Rattle.std.specs.Option.{option_map_or}
 use Rattle.rv_code.specs.declared.placed.Func.{Func}
 use Rattle.elf_image.specs.declared.elf.Elf.{Elf}
@@ -37,27 +37,23 @@ added_names area ranges =
 abbrev pub name_behind : Option Symbol → List ℕ
 name_behind symbol = option_map_or (λ s. ended (cold_name s.name.now)) symbol []
 
-abbrev pub cold_names : Elf → List Func → List ℕ → List ℕ
-cold_names elf funcs cold = flat_map (λ a. name_behind (named_around elf.symbols.items funcs a)) cold
+abbrev pub cold_names : List Symbol → List Func → List ℕ → List ℕ
+cold_names symbols funcs cold = flat_map (λ a. name_behind (named_around symbols funcs a)) cold
 
 -- the bytes of the section at `index`; none if there is no such section
 abbrev pub table_bytes : Elf → ℕ → List ℕ
 table_bytes elf index = option_map_or (section_bytes elf.file.now) (slice_get elf.sections.items index) []
-
--- A table with the names `names` after the old ones. If it was empty, it begins with a zero byte then.
-abbrev pub extended : List ℕ → List ℕ → List ℕ
-extended old names = if (length old == 0) && nat_lt 0 (length names) then 0 ∷ names else old ++ names
 
 -- the names that are added to the table of names of sections; it may be that of symbols too
 abbrev pub names_added : Elf → Area → Bool → List Func → List ℕ → List ℕ
 names_added elf area ranges funcs cold =
     flat_map old_ended elf.sections.items
     ++ (added_names area ranges
-    ++ (if is_at (e_shstrndx elf.file.now) (place_of_names elf) then cold_names elf funcs cold else []))
+    ++ (if is_at (e_shstrndx elf.file.now) (place_of_names elf) then cold_names elf.symbols.items funcs cold else []))
 
 pub record HaveNewNames {Y Z : Type 0} (elf new : Elf) (tables : List (String Y × Vec ℕ Z)) (area : Area)
     (funcs : List Func) (cold : List ℕ) : Type 0 where
-  pub sections : table_bytes new (e_shstrndx elf.file.now) ≡ extended (table_bytes elf (e_shstrndx elf.file.now))
-      (names_added elf area (adds_ranges elf.sections.items tables) funcs cold)
+  pub sections : table_bytes new (e_shstrndx elf.file.now) ≡ table_bytes elf (e_shstrndx elf.file.now)
+      ++ names_added elf area (adds_ranges elf.sections.items tables) funcs cold
   pub symbols : IfSome (place_of_names elf) (λ i. i ≢ e_shstrndx elf.file.now →
-      table_bytes new i ≡ extended (table_bytes elf i) (cold_names elf funcs cold))
+      table_bytes new i ≡ table_bytes elf i ++ cold_names elf.symbols.items funcs cold)
