@@ -4,7 +4,7 @@ use Rattle.std.proofs.Common.{Vec, length, take, drop, slice_get, arith}
 use Rattle.std.specs.Prelude.{All, IfSome, ◌==◌, ◌≢◌, if◌then◌else◌, nat_lt, option_and_then}
 use Rattle.std.specs.Option.{option_map_or}
 use Rattle.std.proofs.lemmas.Bool.{eq-eqb, eqb-false, ne_eqb}
-use Rattle.std.proofs.lemmas.Option.{none-some, same_Some, slice_get_within}
+use Rattle.std.proofs.lemmas.Option.{none-some, same_Some}
 use Rattle.rv_code.specs.declared.placed.Func.{Func}
 use Rattle.elf_image.specs.declared.elf.Elf.{Elf}
 use Rattle.elf_image.specs.declared.section.Section.{Section}

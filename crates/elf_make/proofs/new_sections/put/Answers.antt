@@ -1,4 +1,4 @@
-use Rattle.std.proofs.Common.{◌≡◌, ◌∙◌, sym, ap, subst, refl, ℕ, ◌+◌, ◌≤◌, ◌<◌, ◌++◌, List, [], Bool, false, Option, Some, length}
+use Rattle.std.proofs.Common.{◌≡◌, ◌∙◌, sym, ap, subst, refl, ℕ, ◌+◌, ◌≤◌, ◌<◌, ◌++◌, List, [], Bool, false, Option, length}
 use Rattle.std.proofs.Common.{drop, take, get_or}
 use Rattle.std.proofs.Common.{slice_get, arith, rules}
 use Rattle.std.specs.Option.{option_map_or}
