@@ -6,17 +6,12 @@ use Rattle.std.proofs.lemmas.List.{get_or_append_left, get_or-append_right}
 use Rattle.elf_image.specs.declared.section.Section.{Section}
 use Rattle.elf_image.specs.declared.section.SectionHeader.{SectionHeader}
 use Rattle.elf_parts.specs.Patches.{Stands}
-use Rattle.elf_parts.proofs.Patches.{stands-behind, stands-front}
+use Rattle.elf_parts.proofs.Patches.{stands-front}
 use Rattle.elf_plan.specs.declared.area.Area.{Area}
 use Rattle.elf_make.specs.SetHeaders.{Adds, AddsAt, AddsRanges, AreAdded, IsNamed, IsNew, IsRenamed, Keeps}
 
 pub added-keeps : (xs name ys : List ℕ) → ys ≡ xs ++ name → Keeps xs ys
 added-keeps xs name ys is o zs stands = subst (λ (table : List ℕ). Stands table o zs) (sym is) (stands-front xs name o zs stands)
-
-pub added-here : (xs name ys : List ℕ) (at : ℕ) → at ≡ length xs → ys ≡ xs ++ name → Stands ys at name
-added-here xs name ys at place is =
-    subst (λ (table : List ℕ). Stands table at name) (sym is)
-    (subst (λ (o : ℕ). Stands (xs ++ name) o name) (sym place) (stands-behind xs name))
 
 pub both-keep : (xs ys zs : List ℕ) → Keeps xs ys → Keeps ys zs → Keeps xs zs
 both-keep xs ys zs first second o bytes stands = second o bytes (first o bytes stands)
