@@ -45,7 +45,12 @@ pub mod SectionsNamed
 pub mod SectionsRead
 pub mod SoundFiles
 pub mod StandingOrder
+pub mod SymbolEntries
 pub mod SymbolTables
+pub mod SymbolsPlaced
+pub mod SymbolsPut
+pub mod SymbolsRead
+pub mod SymbolsWritten
 pub mod TableBytes
 pub mod TableKept
 pub mod TablePlace

@@ -11,6 +11,7 @@ use Rattle.elf_image.specs.file.StringTables.{IsUnended}
 use Rattle.elf_parts.specs.Patches.{Stands}
 use Rattle.elf_parts.proofs.MoreNames.{text_of-front}
 use Rattle.elf_parts.proofs.Patches.{take-stands}
+use Rattle.elf_plan.specs.ColdSymbols.{cold_name}
 use Rattle.elf_plan.specs.OldNames.{old_name}
 use Rattle.elf_plan.specs.NewNames.{ended}
 use Rattle.elf_make.specs.SetHeaders.{Keeps}
@@ -57,6 +58,25 @@ clean-old name clean = cases (starts_with nat_eq name (codes "."))
         clean-more 46 _ refl (clean-more 111 _ refl (clean-more 108 _ refl (clean-more 100 name refl clean)))
     cases false =
         clean-more 46 _ refl (clean-more 111 _ refl (clean-more 108 _ refl (clean-more 100 _ refl (clean-more 46 name refl clean))))
+
+-- two names joined
+clean-joined : (xs ys : List ℕ) → IsClean xs → IsClean ys → IsClean (xs ++ ys)
+clean-joined [] ys first second = second
+clean-joined (x ∷ xs) ys first second = cases (λ rest. clean-joined xs ys rest second) (goes_on x) refl
+  where
+    cases : (IsClean xs → IsClean (xs ++ ys)) → (b : Bool) → goes_on x ≡ b → IsClean (x ∷ (xs ++ ys))
+    cases later true e =
+        let taken : x ∷ take_while goes_on (ended xs) ≡ x ∷ xs =
+        sym (take_while-cons goes_on x (ended xs) ∙ ap (λ (b : Bool). cond b (x ∷ take_while goes_on (ended xs)) []) e) ∙ first in
+        clean-more x (xs ++ ys) e (later (ap (drop 1) taken))
+    cases later false e =
+        let none : [] ≡ x ∷ xs =
+        sym (take_while-cons goes_on x (ended xs) ∙ ap (λ (b : Bool). cond b (x ∷ take_while goes_on (ended xs)) []) e) ∙ first in
+        absurd (let size = ap length none in omega (arith, size))
+
+-- the name of a cold part
+pub clean-cold : (name : List ℕ) → IsClean name → IsClean (cold_name name)
+clean-cold name clean = clean-joined name (codes ".cold") clean refl
 
 -- such a name in a table
 pub text-there : (table name : List ℕ) (at : ℕ) → IsClean name → Stands table at (ended name) → text_of table at ≡ name

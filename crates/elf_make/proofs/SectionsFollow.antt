@@ -50,7 +50,7 @@ rounded_up-divides unit n some =
     ap (λ (m : ℕ). m % unit) more ∙ mod-mul-add _ unit 0 some
 
 -- the symbol table is that, if it isn't the table of section names
-symbols-at : (names : ℕ) (symbols symbol_names table : Option ℕ) (own : Contents) (k : ℕ) (x : Section) →
+pub symbols-at : (names : ℕ) (symbols symbol_names table : Option ℕ) (own : Contents) (k : ℕ) (x : Section) →
     is_at names symbols ≡ false → is_at k symbols ≡ true → contents_by names symbols symbol_names table own k x ≡ Symbols
 symbols-at names symbols symbol_names table own k x apart at = grind (arith)
 
@@ -179,7 +179,7 @@ module _ {Y Z : Type 0} (s : Source) (tight : Bool) (w : List ℕ) (read : IsElf
     below : k < length olds
     below = slice_get_within olds k x at_x
 
-    at-contents : slice_get has.contents k ≡ Some (known k x)
+    pub at-contents : slice_get has.contents k ≡ Some (known k x)
     at-contents =
         let low = below in
         let count = has.arranged.contents_are.count in
@@ -196,7 +196,7 @@ module _ {Y Z : Type 0} (s : Source) (tight : Bool) (w : List ℕ) (read : IsElf
     was c = set_header made.layout.shift c x begun
 
     module _ (c : Contents) (e : known k x ≡ c) where
-      set-as : get_or has.put.set k no_header ≡ was c
+      pub set-as : get_or has.put.set k no_header ≡ was c
       set-as = set-is.is ∙ ap was e
 
       -- its header, if the contents aren't written, ..
@@ -241,6 +241,9 @@ module _ {Y Z : Type 0} (s : Source) (tight : Bool) (w : List ℕ) (read : IsElf
             (slice_get has.contents k) []) o has.put.new.ranges.now) at_x
             ∙ ap (λ (o : Option Contents). option_map_or (λ b. written_bytes has.put.new s.elf.file.now b x) o []) at-contents
             ∙ ap (λ (b : Contents). written_bytes has.put.new s.elf.file.now b x) e
+
+        pub stands-written : Stands w n.offset (written_bytes has.put.new s.elf.file.now c x)
+        stands-written = subst (Stands w n.offset) bytes-are (contents-written k n there at_n)
 
         pub held : (kind : ℕ) (ys : List ℕ) → n.kind ≡ kind → written_bytes has.put.new s.elf.file.now c x ≡ ys →
             (kind == SHT_NOBITS ≡ true → [] ≡ ys) → HoldsContents w ys n

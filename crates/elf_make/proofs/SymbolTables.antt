@@ -1,9 +1,9 @@
 -- The symbol table of a file that was read.
-use Rattle.std.proofs.Common.{◌≡◌, ◌≢◌, ◌∙◌, sym, ap, subst, refl, ℕ, zero, suc, ◌+◌, ◌-◌, ◌*◌, ◌≤◌, ◌<◌, ◌⊎◌, inl, inr, ⊎_elim}
+use Rattle.std.proofs.Common.{◌≡◌, ◌∙◌, sym, ap, subst, refl, ℕ, zero, suc, ◌+◌, ◌*◌, ◌≤◌, ◌<◌, inr, ⊎_elim}
 use Rattle.std.proofs.Common.{List, [], ◌∷◌, Option, Some, None, Bool, true, false, cond, length, get_or, take, drop, arith}
 use Rattle.std.specs.Prelude.{IfSome, find, map, nat_lt, option_and_then, position, slice_get, ◌==◌, if◌then◌else◌}
 use Rattle.std.specs.List.{position_or_len, range_with_len}
-use Rattle.std.proofs.lemmas.Bool.{eqb-false, eqb-true, le-ltb, lt-ltb, ltb-true, ne_eqb}
+use Rattle.std.proofs.lemmas.Bool.{eqb-true, le-ltb, lt-ltb, ltb-true, ne_eqb}
 use Rattle.std.proofs.lemmas.List.{get_or-drop, get_or-take, length-drop, length-take}
 use Rattle.std.proofs.lemmas.List.Quantifiers.{position-Some}
 use Rattle.std.proofs.lemmas.List.Sums.{position_or_len_is}
@@ -15,7 +15,7 @@ use Rattle.elf_image.specs.declared.section.TheConstants.{SHT_NOBITS, SHT_SYMTAB
 use Rattle.elf_image.specs.declared.symbol.Symbol.{Symbol}
 use Rattle.elf_image.specs.declared.symbol.TheConstants.{SYM_SIZE}
 use Rattle.elf_image.specs.faults.FileFaults.{IsSound}
-use Rattle.elf_image.specs.faults.Truncation.{HasContents, HasSymbolNames, IsReadable, IsUnnamedSymbolOf}
+use Rattle.elf_image.specs.faults.Truncation.{HasSymbolNames, IsReadable, IsUnnamedSymbolOf}
 use Rattle.elf_image.specs.file.Header.{e_shnum, number_at}
 use Rattle.elf_image.specs.file.ParsedFile.{AreSymbols, AreSymbolsOf, IsElfOf, IsSectionAt}
 use Rattle.elf_image.specs.file.Sections.{contents, section_header, text_of}

@@ -5,9 +5,12 @@ pub mod FileParts
 pub mod FrontBytes
 pub mod MadeNames
 pub mod MadeSections
+pub mod NewSymbols
+pub mod NewTables
 pub mod PartPlaces
 pub mod PlacedContents
 pub mod SectionTable
 pub mod SetHeaders
 pub mod Source
+pub mod SymbolTable
 pub mod WrittenFile

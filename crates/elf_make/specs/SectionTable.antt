@@ -1,6 +1,7 @@
 -- The table of section headers, which ends a written file. gABI, "Section Header".
 use Rattle.std.specs.Prelude.{◌≡◌, ℕ, ◌+◌, ◌-◌, ◌*◌, ◌^◌, ◌<◌, ◌≤◌, ◌++◌, min, List, All, String, Vec}
 use Rattle.std.specs.Prelude.{codes, length, map, slice_index_or}
+use Rattle.addr_map.specs.declared.span.Span.{Span}
 use Rattle.rv_code.specs.declared.placed.Func.{Func}
 use Rattle.elf_image.specs.declared.elf.Elf.{Elf}
 use Rattle.elf_image.specs.declared.section.SectionHeader.{SectionHeader}
@@ -17,6 +18,7 @@ use Rattle.elf_make.specs.declared.headers.NewContents.{NewContents}
 use Rattle.elf_make.specs.MadeNames.{HasNames}
 use Rattle.elf_make.specs.PlacedContents.{ArePlaced, bytes_at}
 use Rattle.elf_make.specs.SetHeaders.{AreSet}
+use Rattle.elf_make.specs.SymbolTable.{HasSymbols}
 
 -- a header whose offset doesn't pass the end of the file
 abbrev pub capped : ℕ → SectionHeader → SectionHeader
@@ -60,9 +62,10 @@ pub record ArePut {Y Z : Type 0} (elf : Elf) (tables : List (String Y × Vec ℕ
   -- the new code has a section after those of the input
   pub more : length elf.sections.items < length set
 
--- and the tables of names among them have the names of these cold parts
+-- And among them are the tables of names and of symbols, with those of these cold parts.
 pub record ArePutWith {Y Z : Type 0} (elf : Elf) (tables : List (String Y × Vec ℕ Z)) (funcs : List Func)
-    (cold : List ℕ) (area : Area) (shift : Shift) (contents : List Contents) (order : List (ℕ × ℕ)) (base start : ℕ)
-    (tail : List ℕ) (at : ℕ) (headers : List SectionHeader) : Type 0 where
+    (cold : List ℕ) (spans : List Span) (area : Area) (shift : Shift) (contents : List Contents)
+    (order : List (ℕ × ℕ)) (base start : ℕ) (tail : List ℕ) (at : ℕ) (headers : List SectionHeader) : Type 0 where
   pub put : ArePut elf tables area shift contents order base start tail at headers
   pub names : HasNames elf tables area funcs cold put.new
+  pub symbols : HasSymbols elf funcs spans cold contents put.new put.set

@@ -7,6 +7,7 @@ ghost use Rattle.addr_map.specs.Spans.{moved};
 ghost use Rattle.elf_parts.specs.Parts.{PartsFit, size_of};
 ghost use Rattle.rv_code.specs.layout.FunctionLists.{AreLaidOut};
 ghost use Rattle.elf_plan.specs.FirstNames.{AreFirstNames};
+ghost use Rattle.elf_plan.specs.FragmentLists.{AreFragments};
 ghost use Rattle.elf_plan.specs.Plans.{IsPlanOf};
 ghost use Rattle.elf_make.specs.AreaTables.{IsMadeWith};
 ghost use Rattle.elf_make.specs.CellNumbers.{in_pieces};
@@ -124,6 +125,7 @@ pub fn made(
     requires read { IsElfOf source.now.elf.now.file.now source.now.elf.now }
     requires sound { IsSound source.now.elf.now.file.now }
     requires laid_out { AreLaidOut source.now.funcs.now }
+    requires fragments { AreFragments source.now.funcs.now source.now.map.now source.now.fragments.now }
     requires firsts { AreFirstNames source.now.elf.now.symbols.items source.now.names.now }
     requires cells { All (CanHold source.now.elf.now) emitted.now.cells.items }
     ensures { IfOk result (λ w. IsMadeWith

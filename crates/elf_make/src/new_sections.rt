@@ -1,18 +1,22 @@
 // The sections of a written file: their contents after its loaded bytes, and their headers after those.
 ghost use Rattle.std.specs.Prelude.{◌≡◌, ◌≢◌, ◌<◌, ◌≤◌, ◌+◌, ◌*◌, ◌^◌, ℕ, List, All, AllPairs, IfOk, OnOk, length};
-ghost use Rattle.std.specs.Prelude.{◌++◌, codes, false, slice_index_or};
+ghost use Rattle.std.specs.Prelude.{◌++◌, [], IfSome, IsSome, None, Some, codes, false, slice_get, slice_index_or};
 ghost use Rattle.elf_image.specs.declared.section.Section.{Section};
 ghost use Rattle.elf_image.specs.declared.section.SectionHeader.{SectionHeader};
 ghost use Rattle.elf_plan.specs.declared.sections.Contents.{Contents};
 ghost use Rattle.elf_make.specs.PlacedContents.{set_header};
-ghost use Rattle.elf_make.specs.MadeNames.{HasNames, bytes_of, first_added, second_added};
+ghost use Rattle.elf_make.specs.MadeNames.{HasNames, bytes_of, first_added, second_added, symbol_texts};
+ghost use Rattle.elf_make.specs.NewSymbols.{named_parts};
 ghost use Rattle.elf_make.specs.SetHeaders.{Adds, AreAdded, AreSet};
 ghost use Rattle.elf_make.specs.SectionTable.{AreCapped, ArePutWith, EndsWith};
+ghost use Rattle.elf_make.specs.SymbolTable.{HasSymbols, HasTable, IsColdEntry, SaysInfo};
 ghost use Rattle.elf_parts.specs.Patches.{Stands};
 ghost use Rattle.elf_plan.specs.Contents.{is_at};
 ghost use Rattle.elf_plan.specs.FirstNames.{AreFirstNames};
+ghost use Rattle.elf_plan.specs.FragmentLists.{AreFragments};
 ghost use Rattle.elf_plan.specs.NewNames.{added_names, cold_names, ended, table_bytes};
 ghost use Rattle.elf_plan.specs.NewSections as spec;
+ghost use Rattle.elf_plan.specs.PairedLists.{GoTogether};
 ghost use Rattle.rv_code.specs.layout.FunctionLists.{AreLaidOut};
 ghost use Rattle.elf_image.specs.faults.Truncation.{IsReadable};
 ghost use Rattle.elf_image.specs.file.Header.{e_shnum, e_shstrndx};
@@ -20,7 +24,7 @@ ghost use Rattle.elf_plan.specs.KnownSections.{IsOwnOf};
 
 use crate::headers::{NewContents, area_headers, check_end, old_headers, place_all, set_contents};
 use crate::names::NameTable;
-use crate::symbols::{NewCode, cold_symbols, local_count, symbol_table};
+use crate::symbols::{NewCode, cold_symbols, new_info, symbol_table};
 use crate::tail::{Tail, limited};
 use elf_image::section::{SHDR_SIZE, SHT_PROGBITS};
 use elf_image::{Elf, Section, SectionHeader};
@@ -83,6 +87,16 @@ impl NewNames {
             None => self.sections.bytes(),
         }
     }
+}
+
+// The section at `index`.
+fn section_at<'a, 'file>(
+    elf: &'a Elf<'file>,
+    index: usize,
+) -> Result<&'a Section<'file>, Unwritable>
+    ensures { IfOk result (λ section. slice_get elf.now.sections.items index ≡ Some section.now) }
+{
+    elf.sections.get(index).ok_or(Unwritable::Layout)
 }
 
 // A table of names that begins with the bytes of the section at `index`.
@@ -153,7 +167,13 @@ fn added_symbols(
     names: &mut NewNames,
 ) -> Result<Vec<SymbolEntry>, Unwritable>
     requires laid_out { AreLaidOut code.now.funcs.now }
+    requires fragments { AreFragments code.now.funcs.now code.now.map.now code.now.fragments.now }
     requires firsts { AreFirstNames source.now.elf.now.symbols.items source.now.names.now }
+    ensures entries { IfOk result (λ entries. IsSome own.now.symbol_names → GoTogether
+        (IsColdEntry (symbol_texts names.new) source.now.elf.now.symbols.items code.now.funcs.now code.now.map.now
+        code.now.section)
+        (named_parts source.now.elf.now.symbols.items code.now.funcs.now source.now.cold.now) entries.items) }
+    ensures none { IfOk result (λ entries. own.now.symbol_names ≡ None → entries.items ≡ []) }
     ensures first { IfOk result (λ entries. names.new.sections.bytes.items
         ≡ names.old.sections.bytes.items ++ first_added own.now.symbol_names (bytes_of names.old.symbols)
         (cold_names source.now.elf.now.symbols.items code.now.funcs.now source.now.cold.now)) }
@@ -181,6 +201,7 @@ fn new_symbols(
     text: u16,
 ) -> Result<Vec<u8>, Unwritable>
     requires laid_out { AreLaidOut source.now.funcs.now }
+    requires fragments { AreFragments source.now.funcs.now source.now.map.now source.now.fragments.now }
     requires firsts { AreFirstNames source.now.elf.now.symbols.items source.now.names.now }
     requires own { IsOwnOf source.now.elf.now own.now }
     ensures count { length headers.new ≡ length headers.old }
@@ -194,11 +215,14 @@ fn new_symbols(
     ensures second { IfOk result (λ bytes. bytes_of names.new.symbols
         ≡ second_added own.now.symbol_names (bytes_of names.old.symbols)
         (cold_names source.now.elf.now.symbols.items source.now.funcs.now source.now.cold.now)) }
+    ensures symbols { IfOk result (λ bytes. IfSome own.now.symbols (λ k. HasTable source.now.elf.now
+        source.now.funcs.now source.now.map.now source.now.cold.now own.now.symbol_names text k (symbol_texts names.new)
+        bytes.items (SaysInfo headers.new k))) }
 {
     let Some(index) = own.symbols else {
         return Ok(Vec::new(alloc));
     };
-    let section = source.elf.sections.get(index).ok_or(Unwritable::Layout)?;
+    let section = section_at(source.elf, index)?;
     let code = NewCode {
         funcs: source.funcs,
         map: source.map,
@@ -206,9 +230,9 @@ fn new_symbols(
         section: text,
     };
     let added = added_symbols(alloc, source, own, &code, names)?;
-    if !added.is_empty() && index < headers.len() {
-        let count = sum(local_count(source.elf, section) as u64, added.len() as u64)?;
-        headers[index].info = u32::try_from(count).map_err(|_| Unwritable::Layout)?;
+    let info = new_info(&source.elf.symbols, added.len(), section)?;
+    if index < headers.len() {
+        headers[index].info = info;
     }
     symbol_table(alloc, source.elf, section, &code, &added)
 }
@@ -253,10 +277,13 @@ fn put_contents(
         new.now.section_names.now headers.old }
     requires names { HasNames source.now.elf.now source.now.tables.now plan.now.area source.now.funcs.now
         source.now.cold.now new.now }
+    requires symbols { HasSymbols source.now.elf.now source.now.funcs.now source.now.map.now source.now.cold.now
+        plan.now.contents.items new.now headers.old }
     ensures base { IfOk result (λ at. tail.new.base ≡ tail.old.base) }
     ensures count { IfOk result (λ at. length headers.new ≡ length headers.old) }
     ensures put { IfOk result (λ at. ArePutWith source.now.elf.now source.now.tables.now source.now.funcs.now
-        source.now.cold.now plan.now.area plan.now.shift plan.now.contents.items plan.now.order.items tail.old.base
+        source.now.cold.now source.now.map.now plan.now.area plan.now.shift plan.now.contents.items
+        plan.now.order.items tail.old.base
         (tail.old.base + length tail.old.bytes.items) tail.new.bytes.items at headers.new) }
 {
     check_end(source.elf, &plan.contents, &plan.order, new, tail.end()?)?;
@@ -283,6 +310,7 @@ pub fn put(
     requires own { IsOwnOf source.now.elf.now plan.now.own }
     requires readable { IsReadable source.now.elf.now.file.now }
     requires laid_out { AreLaidOut source.now.funcs.now }
+    requires fragments { AreFragments source.now.funcs.now source.now.map.now source.now.fragments.now }
     requires firsts { AreFirstNames source.now.elf.now.symbols.items source.now.names.now }
     requires count { length source.now.elf.now.sections.items ≡ e_shnum source.now.elf.now.file.now }
     requires contents { length plan.now.contents.items ≡ length source.now.elf.now.sections.items }
@@ -291,7 +319,8 @@ pub fn put(
     ensures names { IfOk result (λ new. new.names ≡ e_shstrndx source.now.elf.now.file.now) }
     ensures base { IfOk result (λ new. tail.new.base ≡ tail.old.base) }
     ensures put { IfOk result (λ new. ArePutWith source.now.elf.now source.now.tables.now source.now.funcs.now
-        source.now.cold.now plan.now.area plan.now.shift plan.now.contents.items plan.now.order.items tail.old.base
+        source.now.cold.now source.now.map.now plan.now.area plan.now.shift plan.now.contents.items
+        plan.now.order.items tail.old.base
         (tail.old.base + length tail.old.bytes.items) tail.new.bytes.items new.section_headers_at new.headers.items) }
 {
     check_sizes(source, &plan.contents)?;

@@ -1,29 +1,11 @@
 -- Lists whose elements are related pairwise, with one more element.
-use Rattle.std.proofs.Common.{◌≡◌, ◌≢◌, sym, ap, subst, ℕ, ◌+◌, ◌-◌, ◌<◌, ◌≤◌, ⊎_elim, Bool, true, false, cond, List, [], ◌∷◌, ◌++◌, length}
+use Rattle.std.proofs.Common.{◌≡◌, sym, ap, subst, ℕ, ◌+◌, ◌-◌, ◌<◌, ◌≤◌, ⊎_elim, Bool, true, false, cond, List, [], ◌∷◌, ◌++◌, length}
 use Rattle.std.proofs.Common.{get_or, take, arith, ◌∙◌, Some, length-append}
 use Rattle.std.specs.Prelude.{filter, slice_get}
-use Rattle.std.proofs.lemmas.Bool.{cases_eq, cases_lt}
+use Rattle.std.proofs.lemmas.Bool.{cases_lt}
 use Rattle.std.proofs.lemmas.List.{append-nil, get_or_append_left, get_or-append_right}
 use Rattle.std.proofs.lemmas.List.Elements.{filter_more}
 use Rattle.std.proofs.lemmas.Option.{get_or_from_slice_get, slice_get-get_or, slice_get_within}
-use Rattle.elf_plan.specs.PairedLists.{GoTogether, GoTogetherBelow}
-
-pub below-more : {A B : Type 0} (R : A → B → Type 0) (n : ℕ) (xs : List A) (ys : List B) (d : A) (e : B) →
-    GoTogetherBelow R n xs ys → R (get_or xs n d) (get_or ys n e) → GoTogetherBelow R (n + 1) xs ys
-below-more R n xs ys d e was here i x y below is_x is_y = ⊎_elim
-    (λ (same : i ≡ n).
-    let at_x : get_or xs n d ≡ x = sym (ap (λ k. get_or xs k d) same) ∙ get_or_from_slice_get xs i x d is_x in
-    let at_y : get_or ys n e ≡ y = sym (ap (λ k. get_or ys k e) same) ∙ get_or_from_slice_get ys i y e is_y in
-    subst (λ v. R x v) at_y (subst (λ v. R v (get_or ys n e)) at_x here))
-    (λ (other : i ≢ n). was i x y (omega arith) is_x is_y)
-    (cases_eq i n)
-
-pub all-together : {A B : Type 0} (R : A → B → Type 0) (n : ℕ) (xs : List A) (ys : List B) → length ys ≡ length xs →
-    length xs ≤ n → GoTogetherBelow R n xs ys → GoTogether R xs ys
-all-together R n xs ys count whole are = record {
-  count = count;
-  each = λ i x y is_x is_y. let within = slice_get_within xs i x is_x in are i x y (omega arith) is_x is_y;
-}
 
 pub filter-taken : {A : Type 0} (p : A → Bool) (xs : List A) (i : ℕ) (d : A) → i < length xs → p (get_or xs i d) ≡ true →
     filter p (take (i + 1) xs) ≡ filter p (take i xs) ++ get_or xs i d ∷ []
@@ -59,8 +41,3 @@ each-pushed {A} {B} R xs ys n y size old new i x z is_x is_z =
         ∙ get_or_from_slice_get (ys ++ y ∷ []) i z z is_z in
         subst (λ (w : B). R i x w) is
         (subst (λ (k : ℕ). R k x y) (sym at) (new x (subst (λ (k : ℕ). slice_get xs k ≡ Some x) at is_x)))
-
--- Equal lists.
-pub together-at : {A B : Type 0} (R : A → B → Type 0) (xs' xs : List A) (ys' ys : List B) → xs' ≡ xs → ys' ≡ ys →
-    GoTogether R xs' ys' → GoTogether R xs ys
-together-at R xs' xs ys' ys same_x same_y go = subst (λ v. GoTogether R xs v) same_y (subst (λ v. GoTogether R v ys') same_x go)

@@ -11,7 +11,7 @@ use elf_image::segment::PT_LOAD;
 use file_room::{area_start_of, greatest_align, new_segment_start};
 use rb_bytes::fault::NoMemory;
 
-// The alignments of the unwind table and of its index. `elf_make` and `elf_check` use the same ones.
+// The alignments of the unwind table and of its index. `elf_make` uses the same ones.
 const FRAMES_ALIGN: u64 = 8;
 
 const INDEX_ALIGN: u64 = 4;

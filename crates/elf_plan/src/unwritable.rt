@@ -13,7 +13,7 @@ pub enum Unwritable {
     Layout,
     /// The file would be larger than the limit.
     TooLarge,
-    /// The file was made, but reading it back gave a different result than planned.
+    /// The file was made, but the reader refuses it.
     ReadBack,
 }
 

@@ -6,7 +6,7 @@ pub use Rattle.elf_plan.specs.NameWeight
 pub use Rattle.elf_plan.specs.NewSections
 pub use Rattle.elf_plan.specs.NewSegments
 pub use Rattle.elf_plan.specs.TableSizes
-pub use Rattle.elf_check.specs.NewTables
+pub use Rattle.elf_make.specs.NewTables
 pub use Rattle.elf_make.specs.CarriedBytes
 pub use Rattle.elf_make.specs.FrontBytes
 pub use Rattle.elf_make.specs.Source

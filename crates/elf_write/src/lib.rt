@@ -1,4 +1,4 @@
-//! The written file: what is made for it, read back and found to be what it must be.
+//! The written file: it is made, and answered if the reader takes it.
 #![tactic(auto)]
 
 mod given_places;

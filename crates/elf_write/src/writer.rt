@@ -1,18 +1,17 @@
-// The written file is made, and read back.
+// The written file is made, and read.
 ghost use Rattle.std.specs.Prelude.{◌<◌, All, AllPairs, Bool, IfOk, OnOk};
 ghost use Rattle.elf_image.specs.faults.FileFaults.{IsSound};
 ghost use Rattle.elf_image.specs.file.ParsedFile.{IsElfOf};
 ghost use Rattle.rv_code.specs.layout.FunctionLists.{AreLaidOut};
-ghost use Rattle.elf_check.specs.NewTables.{HasNewTables, area_for};
+ghost use Rattle.elf_make.specs.NewTables.{HasNewTables, area_for};
 ghost use Rattle.elf_write.specs.TablePlaces.{ArePlaced, KeepsTables, TablesStand};
-ghost use Rattle.elf_write.specs.WriterInputs.{AreInputs};
+ghost use Rattle.elf_write.specs.WriterInputs.{AreInputs, IsRead};
 ghost use Rattle.elf_make.specs.Source.{HasPlace, source_of};
 ghost use Rattle.elf_make.specs.WrittenFile.{AreApart, CanHold, IsWritten};
 
 use crate::given_places::check_places;
 use addr_map::AddrMap;
-use elf_check::is_accepted;
-use elf_image::Elf;
+use elf_image::{Elf, read};
 use elf_make::{is_above, made};
 use elf_plan::first_names::first_names;
 use elf_plan::fragments::fragments;
@@ -20,9 +19,20 @@ use elf_plan::given_tables::Table;
 use elf_plan::plan::Plan;
 use elf_plan::source::SectionSource;
 use elf_plan::unwritable::Unwritable;
-use rb_bytes::fault::NoMemory;
+use rb_bytes::fault::{NoMemory, Refusal};
 use rv_code::{Emitted, Func};
 use std::alloc::Global;
+
+// Answers `ReadBack` if the reader finds a fault in `file`.
+fn check_read(alloc: Global, file: &[u8]) -> Result<(), Unwritable>
+    ensures { OnOk result (IsRead file.now) }
+{
+    match read(alloc, file) {
+        Ok(_) => Ok(()),
+        Err(Refusal::Fault(_)) => Err(Unwritable::ReadBack),
+        Err(Refusal::Memory) => Err(Unwritable::Memory),
+    }
+}
 
 // What `write` gives, with the reason if there is no file.
 fn written(
@@ -59,9 +69,7 @@ fn written(
     let tight = is_above(elf, map)?;
     let plan = Plan::new(alloc, elf, tables, &emitted.code, tight)?;
     let file = made(alloc, &source, emitted, &plan)?;
-    if !is_accepted(alloc, &source, &plan, &file)? {
-        return Err(Unwritable::ReadBack);
-    }
+    check_read(alloc, &file)?;
     Ok(file)
 }
 
@@ -69,9 +77,9 @@ fn written(
 /// parts that get a name, `emitted` the new code and the new contents of code cells, and `tables` the contents of
 /// tables that are rewritten, by the names of their sections.
 ///
-/// What is written is read back, so no file is ever answered that the reader refuses, or whose symbols aren't what they
-/// must be. Sections, names, program headers and layout aren't compared: what they are is proved where they are made.
-/// Where no file can be written, for whichever reason of [`Unwritable`], out of memory is answered.
+/// What is written is read, so no file is ever answered that the reader refuses. What is read isn't compared: it is
+/// proved of each file that is made. If no file can be written, for whichever reason of [`Unwritable`], out of memory
+/// is answered.
 pub fn write(
     alloc: Global,
     elf: &Elf,

@@ -66,8 +66,8 @@ returns c =
     let place = c.in_ok-program_headers_at.ensures in
     let start : ℕ → ℕ = start_after elf layout.area layout.shift in
     let PutIn : Area → Shift → ℕ → ℕ → ℕ → Type 0 = λ a h b from to.
-    ArePutWith elf tables c.args.source.now.funcs.now c.args.source.now.cold.now a h plan.contents.items plan.order.items b
-    from tail to headers in
+    ArePutWith elf tables c.args.source.now.funcs.now c.args.source.now.cold.now c.args.source.now.map.now a h
+    plan.contents.items plan.order.items b from tail to headers in
     let Put : ℕ → ℕ → ℕ → Type 0 = PutIn layout.area layout.shift in
     let put_of : PutIn layout.area layout.shift c.table_place.new.tail.base
     (c.table_place.new.tail.base + length c.table_place.new.tail.bytes.items) c.in_ok-sections.sections.section_headers_at =
@@ -158,6 +158,7 @@ returns c =
         segments = placed;
       };
       names = put_in.names;
+      symbols = put_in.symbols;
     })
     c.put_together.ensures
 

@@ -33,6 +33,7 @@ returns-clause-put c =
     let also = c.in_ok-place.ensures.base ∙ based in
     record {
       names = c.requires.names;
+      symbols = c.requires.symbols;
       put = record {
         new = new;
         front = front;

@@ -1,4 +1,0 @@
-mod GivenNames
-pub mod NamedParts
-pub mod ReadFiles
-pub mod SymbolsRead

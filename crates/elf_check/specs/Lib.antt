@@ -1,3 +1,0 @@
-pub mod EntryNames
-pub mod NewSymbols
-pub mod NewTables
