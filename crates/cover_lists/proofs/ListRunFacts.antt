@@ -1,7 +1,7 @@
 -- Runs of location lists, stretch by stretch.
-use Rattle.std.proofs.Common.{◌≡◌, ◌≢◌, ◌∙◌, ◌+◌, ◌<◌, ◌≤◌, ◌==◌, ◌||◌, ◌++◌, ◌∷◌, [], ℕ, zero, suc, Bool, true, false, List, Option, Some}
+use Rattle.std.proofs.Common.{◌≡◌, ◌≢◌, ◌∙◌, ◌+◌, ◌<◌, ◌≤◌, ◌==◌, ◌&&◌, ◌||◌, ◌++◌, ◌∷◌, [], ℕ, zero, suc, Bool, true, false, List, Option, Some}
 use Rattle.std.proofs.Common.{None, refl, sym, ap, subst, arith, length, take, get_or, ⊎_elim}
-use Rattle.std.specs.Prelude.{option_and_then, slice_get}
+use Rattle.std.specs.Prelude.{if◌then◌else◌, nat_le, nat_lt, option_and_then, slice_get}
 use Rattle.std.specs.Global.{Vec}
 use Rattle.std.specs.List.Sorted.{IsStrictlyIncreasing}
 use Rattle.std.specs.Option.{option_or}
@@ -28,6 +28,18 @@ none_extended start len old within longest = record {
   longest = longest;
   answers = λ p. sym (or_none (run_at old p));
 }
+
+-- One answer at all bytes of a stretch.
+pub at_all : (o : Option Said) (start len p : ℕ) →
+    option_and_then (λ (z : ℕ). o) (answer_over start len 0 p) ≡ option_and_then (λ x. answer_over start len x p) o
+at_all o start len p = by (nat_le start p && nat_lt p (start + len)) o
+  where
+    by : (b : Bool) (o : Option Said) →
+        option_and_then (λ (z : ℕ). o) (if b then Some 0 else None) ≡ option_and_then (λ x. if b then Some x else None) o
+    by true None = refl
+    by true (Some x) = refl
+    by false None = refl
+    by false (Some x) = refl
 
 pub some_said : (xs : List (Vec ℕ)) (x : Vec ℕ) → slice_get xs 0 ≡ Some x → unless_empty (items_in xs) ≡ Some (items_in xs)
 some_said [] x e = absurd (cc)

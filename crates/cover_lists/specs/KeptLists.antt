@@ -32,11 +32,13 @@ abbrev pub unless_none : List (List ℕ) → List (List ℕ) → List (List ℕ)
 unless_none [] ys = ys
 unless_none (x ∷ xs) ys = x ∷ xs
 
+-- The expressions of the items with some numbers; if there are none, the defaults.
+abbrev pub said_by : KeptList → List ℕ → List (List ℕ)
+said_by l ks = unless_none (filter_map (expression_of l.expressions.items) ks) (items_in l.defaults.items)
+
 -- The expressions of a list that are in force at an address.
 abbrev pub list_says : KeptList → ℕ → List (List ℕ)
-list_says l a = unless_none (filter_map (expression_of l.expressions.items)
-    (bounded_numbers l.tree (length l.expressions.items) a))
-    (items_in l.defaults.items)
+list_says l a = said_by l (bounded_numbers l.tree (length l.expressions.items) a)
 
 -- The kept list has the expressions in force of the list `ls`.
 abbrev pub Says : KeptList → List Located → Type 0

@@ -1,7 +1,6 @@
 pub mod Located
 pub mod ListPlaces
 pub mod CoverTree
-pub mod CoverTreeDepth
 pub mod EntryAddresses
 pub mod Groups
 pub mod CoverIndex

@@ -1,7 +1,8 @@
 // Expressions of lists.
 ghost use Rattle.std.specs.Prelude.{◌≡◌, ◌↔◌, IsTrue, map};
 
-fn same_bytes(x: &[u8], y: &[u8]) -> bool
+/// Whether two expressions are equal.
+pub(crate) fn same_bytes(x: &[u8], y: &[u8]) -> bool
     ensures { IsTrue result ↔ (x.now ≡ y.now) }
 {
     x == y

@@ -1,14 +1,17 @@
 // Location lists that are kept.
-ghost use Rattle.std.specs.Prelude.{◌≡◌, ◌++◌, ◌∷◌, [], ℕ, IfOk, OnOk, length, map, filter, filter_map, option_map};
+ghost use Rattle.std.specs.Prelude.{◌≡◌, ◌++◌, ◌∷◌, [], ℕ, IfOk, OnOk, IsTrue, Some, length, map, filter, filter_map};
+ghost use Rattle.std.specs.Prelude.{option_map};
 ghost use Rattle.std.specs.List.{cons_option};
+ghost use Rattle.answer_runs.specs.Choices.{unless_empty};
 ghost use Rattle.cover_lists.specs.Groups.{covers_for};
 ghost use Rattle.cover_lists.specs.KeptLists.{items_in, numbered_covers, expression_of, bounded_numbers, unless_none};
-ghost use Rattle.cover_lists.specs.KeptLists.{list_says, Says};
+ghost use Rattle.cover_lists.specs.KeptLists.{list_says, said_by, Says};
 ghost use Rattle.cover_lists.specs.ListPlaces.{located_of};
 ghost use Rattle.cover_lists.specs.Located.{expressions, is_default};
 
 use crate::cover_index::sorted;
 use crate::cover_tree::{Cover, CoverTree};
+use crate::expressions::{same_bytes, same_expressions};
 use crate::kept_list::KeptList;
 use crate::list_place::Place;
 use file_bounds::EXPRESSION_BYTES;
@@ -155,15 +158,27 @@ pub fn keep_list(alloc: Global, places: &[Place<'_>], before: usize) -> Result<K
     })
 }
 
-// The numbers of the items whose ranges contain an address, ascending.
-fn bounded(alloc: Global, list: &KeptList, a: u64) -> Result<Vec<usize>, NoMemory>
-    ensures { IfOk result (λ ks. ks.items ≡ bounded_numbers list.now.tree (length list.now.expressions.items) a) }
+/// The numbers of the items whose ranges contain an address, ascending, in place of the numbers that were there.
+pub(crate) fn numbers_at(list: &KeptList, a: u64, numbers: &mut Vec<usize>) -> Result<(), NoMemory>
+    ensures { OnOk result (numbers.new.items ≡ bounded_numbers list.now.tree (length list.now.expressions.items) a) }
 {
-    let mut numbers = Vec::new(alloc);
-    list.tree.find(a, &mut numbers)?;
+    numbers.clear();
+    list.tree.find(a, numbers)?;
     numbers.sort_unstable();
     numbers.dedup();
-    Ok(numbers)
+    Ok(())
+}
+
+/// Copies of the expressions of the items with some numbers, or of the defaults if there are none.
+pub(crate) fn copies_at(
+    alloc: Global,
+    list: &KeptList,
+    numbers: &[usize],
+) -> Result<Vec<Vec<u8>>, NoMemory>
+    ensures { IfOk result (λ xs. items_in xs.items ≡ said_by list.now numbers.now) }
+{
+    let found = numbered_copies(alloc, &list.expressions, numbers)?;
+    or_defaults(alloc, found, &list.defaults)
 }
 
 // The expressions that were found, or copies of the defaults if none were.
@@ -184,7 +199,77 @@ fn or_defaults(
 pub fn in_force(alloc: Global, list: &KeptList, a: u64) -> Result<Vec<Vec<u8>>, NoMemory>
     ensures { IfOk result (λ xs. items_in xs.items ≡ list_says list.now a) }
 {
-    let numbers = bounded(alloc, list, a)?;
-    let found = numbered_copies(alloc, &list.expressions, &numbers)?;
-    or_defaults(alloc, found, &list.defaults)
+    let mut numbers = Vec::new(alloc);
+    numbers_at(list, a, &mut numbers)?;
+    copies_at(alloc, list, &numbers)
+}
+
+// Whether an expression is that of the item with a number.
+fn is_expression(expressions: &[Vec<u8>], number: usize, x: &[u8]) -> bool
+    ensures { IsTrue result → expression_of expressions.now number ≡ Some x.now }
+{
+    match expression_of(expressions, number) {
+        Some(y) => same_bytes(y, x),
+        None => false,
+    }
+}
+
+// Whether some expressions are those of the items with some numbers.
+fn are_expressions(expressions: &[Vec<u8>], numbers: &[usize], xs: &[Vec<u8>]) -> bool
+    ensures { IsTrue result → items_in xs.now ≡ filter_map (expression_of expressions.now) numbers.now }
+{
+    if xs.len() != numbers.len() {
+        return false;
+    }
+    for i in 0..xs.len() {
+        if !is_expression(expressions, numbers[i], xs[i].as_slice()) {
+            return false;
+        }
+    }
+    true
+}
+
+/// Whether `copies_at` would give these expressions, at least one. No copy is made.
+pub(crate) fn is_said(list: &KeptList, numbers: &[usize], xs: &[Vec<u8>]) -> bool
+    ensures { IsTrue result → unless_empty (said_by list.now numbers.now) ≡ Some (items_in xs.now) }
+{
+    if xs.is_empty() {
+        return false;
+    }
+    if numbers.is_empty() {
+        return same_expressions(&list.defaults, xs);
+    }
+    are_expressions(&list.expressions, numbers, xs)
+}
+
+// The cost of each expression after the first one, in answers. Each is copied, and usually there is one.
+const COST_OF_MORE: usize = 16;
+
+// The number of bytes of an expression that cost as much as an answer.
+const BYTES_OF_COST: usize = 16;
+
+/// The cost of the expressions of the items with some numbers, or of the defaults if there are none.
+pub(crate) fn cost_at(list: &KeptList, numbers: &[usize]) -> usize {
+    if numbers.is_empty() {
+        let mut cost = cost_of(list.defaults.len());
+        for expression in &list.defaults {
+            cost = cost.saturating_add(expression.len() / BYTES_OF_COST);
+        }
+        return cost;
+    }
+    let mut cost = cost_of(numbers.len());
+    for number in numbers {
+        if let Some(expression) = expression_of(&list.expressions, *number) {
+            cost = cost.saturating_add(expression.len() / BYTES_OF_COST);
+        }
+    }
+    cost
+}
+
+// The cost of some expressions without their bytes.
+fn cost_of(count: usize) -> usize {
+    count
+        .saturating_sub(1)
+        .saturating_mul(COST_OF_MORE)
+        .saturating_add(1)
 }

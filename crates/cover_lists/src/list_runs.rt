@@ -3,7 +3,7 @@ ghost use Rattle.std.specs.Prelude.{◌≡◌, ◌≢◌, ◌+◌, ◌-◌, ◌<
 ghost use Rattle.answer_runs.specs.AnswerRuns.{said_runs, IsWithin, AreLongest};
 ghost use Rattle.answer_runs.specs.LastRuns as last;
 ghost use Rattle.answer_runs.specs.Choices.{unless_empty};
-ghost use Rattle.cover_lists.specs.KeptLists.{items_in};
+ghost use Rattle.cover_lists.specs.KeptLists.{items_in, said_by};
 ghost use Rattle.cover_lists.specs.ListFinder.{IsFinder};
 ghost use Rattle.cover_lists.specs.ListRuns as spec;
 ghost use Rattle.cover_lists.specs.GroupRuns.{runs_end};
@@ -12,7 +12,7 @@ ghost use Rattle.cover_lists.specs.ListRuns.{IsExtended, AreCandidates, AreExten
 use crate::cost::is_too_much;
 use crate::expressions::same_expressions;
 use crate::kept_list::KeptList;
-use crate::kept_lists::in_force;
+use crate::kept_lists::{copies_at, cost_at, is_said, numbers_at};
 use crate::list_finder::ListFinder;
 use answer_runs::{Run, ends_at, lengthen};
 use rb_bytes::fault::NoMemory;
@@ -49,21 +49,39 @@ fn add(runs: &mut Vec<ListRun>, start: u64, len: u64, answer: Vec<Vec<u8>>) -> R
     Ok(())
 }
 
-// Adds a stretch of bytes with an answer to the runs, unless the answer is empty.
+// Whether there is a last run, and it has the expressions of the items with some numbers. No copy is made.
+fn goes_on(runs: &[ListRun], list: &KeptList, numbers: &[usize]) -> bool
+    ensures { IsTrue result → last.IsAnswer (unless_empty (said_by list.now numbers.now))
+        (said_runs spec.said runs.now) }
+{
+    match runs.last() {
+        Some(last) => is_said(list, numbers, &last.answer),
+        None => false,
+    }
+}
+
+// Adds a stretch of bytes to the runs of a list, with the expressions of the items with some numbers.
 fn put_answer(
+    alloc: Global,
     runs: &mut Vec<ListRun>,
     start: u64,
     len: u64,
-    answer: Vec<Vec<u8>>,
+    list: &KeptList,
+    numbers: &[usize],
 ) -> Result<(), NoMemory>
     requires before { IsWithin 0 (said_runs spec.said runs.old.items) start }
     requires longest { AreLongest (said_runs spec.said runs.old.items) }
     requires some { 0 < len }
     requires fits { start + len < 2 ^ 64 }
-    ensures { OnOk result (IsExtended start len (unless_empty (items_in answer.items))
+    ensures { OnOk result (IsExtended start len (unless_empty (said_by list.now numbers.now))
         (said_runs spec.said runs.old.items)
         (said_runs spec.said runs.new.items)) }
 {
+    if ends_at(runs, start) && goes_on(runs, list, numbers) {
+        lengthen(runs, len);
+        return Ok(());
+    }
+    let answer = copies_at(alloc, list, numbers)?;
     match answer.first() {
         Some(_) => {
             add(runs, start, len, answer)?;
@@ -73,23 +91,8 @@ fn put_answer(
     }
 }
 
-// The cost of each expression after the first one, in answers. Each is copied, and usually there is one.
-const COST_OF_MORE: usize = 16;
-
-// The number of bytes of an expression that cost as much as an answer.
-const BYTES_OF_COST: usize = 16;
-
-fn cost_of(answer: &[Vec<u8>]) -> usize {
-    let more = answer.len().saturating_sub(1);
-    let mut cost = more.saturating_mul(COST_OF_MORE).saturating_add(1);
-    for expression in answer {
-        cost = cost.saturating_add(expression.len() / BYTES_OF_COST);
-    }
-    cost
-}
-
 // Adds a stretch of bytes to the runs of a list, if the list has an answer at `a`, the stretch's owner. `asked` is the
-// cost of all answers so far. Gives `NoMemory` also if that becomes too high.
+// cost of all answers so far. Gives `NoMemory` also if that becomes too high. `found` is written over.
 fn add_list(
     alloc: Global,
     lists: &[KeptList],
@@ -98,6 +101,7 @@ fn add_list(
     start: u64,
     len: u64,
     a: u64,
+    found: &mut Vec<usize>,
     asked: &mut usize,
 ) -> Result<(), NoMemory>
     requires number { number < length lists.now }
@@ -111,12 +115,13 @@ fn add_list(
     ensures more { OnOk result (IsExtended start len (list_answer lists.now number a) (said_in runs.old.items number)
         (said_in runs.new.items number)) }
 {
-    let answer = in_force(alloc, &lists[number], a)?;
-    *asked = asked.saturating_add(cost_of(&answer));
+    let list = &lists[number];
+    numbers_at(list, a, found)?;
+    *asked = asked.saturating_add(cost_at(list, found));
     if is_too_much(*asked, lists.len()) {
         return Err(NoMemory);
     }
-    put_answer(&mut runs[number], start, len, answer)
+    put_answer(alloc, &mut runs[number], start, len, list, found)
 }
 
 // Adds a stretch of bytes to the runs of the lists with these numbers, which ascend.
@@ -128,6 +133,7 @@ fn add_lists(
     start: u64,
     len: u64,
     a: u64,
+    found: &mut Vec<usize>,
     asked: &mut usize,
 ) -> Result<(), NoMemory>
     requires candidates { AreCandidates lists.now a numbers.now }
@@ -139,7 +145,7 @@ fn add_lists(
     ensures { OnOk result (AreExtended lists.now a numbers.now start len runs.old.items runs.new.items) }
 {
     for number in numbers {
-        add_list(alloc, lists, runs, *number, start, len, a, asked)?;
+        add_list(alloc, lists, runs, *number, start, len, a, found, asked)?;
     }
     Ok(())
 }
@@ -170,6 +176,7 @@ pub fn list_runs(
         (said_in rs.items n)) }
 {
     let mut runs = no_runs(alloc, lists.len())?;
+    let mut found = Vec::new(alloc);
     let mut asked: usize = 0;
     for stretch in stretches {
         let a = stretch.answer;
@@ -182,6 +189,7 @@ pub fn list_runs(
             stretch.start,
             stretch.len,
             a,
+            &mut found,
             &mut asked,
         )?;
     }
