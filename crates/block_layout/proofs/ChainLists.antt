@@ -1,5 +1,5 @@
 -- Chains: one begins with each first block, and it stays within the range of blocks.
-use Rattle.std.proofs.Common.{◌≡◌, ◌≢◌, ◌<◌, ◌≤◌, ◌+◌, ◌-◌, ◌∙◌, ℕ, zero, suc, true, false, List, [], ◌∷◌, ◌++◌, Some, None, length, get_or}
+use Rattle.std.proofs.Common.{◌≡◌, ◌≢◌, ◌<◌, ◌≤◌, ◌+◌, ◌-◌, ◌∙◌, ℕ, zero, suc, false, List, [], ◌∷◌, ◌++◌, Some, None, length, get_or}
 use Rattle.std.proofs.Common.{take, flat_map, arith, ap, sym, subst, inl, inr, ⊎_elim, All, AllPairs, Contains, add-one}
 use Rattle.std.specs.Prelude.{IsPermutation}
 use Rattle.std.specs.Ordering.{nat_cmp, is_lt, ordering_then}
@@ -9,12 +9,13 @@ use Rattle.std.proofs.lemmas.List.Concat.{flat_map-append}
 use Rattle.std.proofs.lemmas.List.Elements.{Contains-append_left, Contains-push, Contains-push_cases, Contains-get_or}
 use Rattle.std.proofs.lemmas.List.Quantifiers.{all_pairs_push}
 use Rattle.std.proofs.lemmas.List.Sorted.{Contains-permutation, IsPermutation-sym, IsPermutation-map}
+use Rattle.std.proofs.lemmas.Grind.{common_steps}
 use Rattle.edge_profile.proofs.Neighbours.{all_pairs}
 use Rattle.block_layout.specs.Links.{Links, IsChain}
 use Rattle.block_layout.specs.Parts.{greatest}
 use Rattle.block_layout.specs.Walks.{AreBetween, IsHotBetween, AreHotBetween, IsUpTo, chain_heads}
 use Rattle.block_layout.specs.declared.hot_chains.HotChain.{HotChain}
-use Rattle.block_layout.proofs.Paths.{IsWithin, as_path, inside_path}
+use Rattle.block_layout.proofs.Paths.{as_path, inside_path}
 use Rattle.rb_bytes.proofs.Permuted.{AllPairs-permutation}
 
 module _ {p : Links} {h : ℕ} {xs ys : List ℕ} (one : IsChain p h xs) (other : IsChain p h ys) where
@@ -51,10 +52,7 @@ same_chain {p} {h} {xs} {ys} one other =
     ∙ get_or_default ys k 0 d (omega arith))
 
 pub chain_inside : (n : ℕ) (p : Links) (h : ℕ) (xs : List ℕ) → AreBetween n p → h < n → IsChain p h xs → All (λ k. k < n) xs
-chain_inside n p h xs between below chain k d within =
-    let w : IsWithin n p = record { inside = λ s t e. (between.inside s t e).1; back = between.back } in
-    let at : get_or xs k 0 < n = inside_path w below (as_path chain) k within in
-    subst (λ (x : ℕ). x < n) (get_or_default xs k 0 d within) at
+chain_inside n p h xs between below chain k d within = grind (arith, common_steps, inside_path, as_path)
 
 -- The hot chains so far.
 
@@ -66,13 +64,7 @@ pub record AreHotTo (p : Links) (weight : ℕ → ℕ) (start end : ℕ) (chains
 
 module _ {p : Links} {weight : ℕ → ℕ} {start h : ℕ} {chains : List HotChain} (was : AreHotTo p weight start h chains) where
   still : (c : HotChain) → IsHotBetween p weight start h c → IsHotBetween p weight start (h + 1) c
-  still c is = record {
-    after = is.after;
-    before = let b = is.before in omega arith;
-    chain = is.chain;
-    weight_is = is.weight_is;
-    hot = is.hot;
-  }
+  still c is = grind (arith, common_steps)
 
   -- no hot chain begins with this block
   pub hot_skip : ((xs : List ℕ) → IsChain p h xs → 0 < greatest weight xs → ⊥) → AreHotTo p weight start (h + 1) chains
@@ -129,19 +121,7 @@ hot_all {old = old} {new = new} are moved = record {
 -- The result of a sort.
 
 from_cmp : (c d : HotChain) → is_lt (ordering_then (nat_cmp c.weight d.weight) (nat_cmp d.head c.head)) ≡ false → IsUpTo c d
-from_cmp c d is = ⊎_elim
-    (λ (less : c.weight < d.weight). let t : true ≡ false = rw (lt-ltb c.weight d.weight less) at is in absurd (cc))
-    (λ (more : d.weight ≤ c.weight). ⊎_elim
-    (λ (above : d.weight < c.weight). inl above)
-    (λ (not' : c.weight ≤ d.weight).
-    let same : c.weight ≡ d.weight = omega arith in
-    ⊎_elim
-    (λ (low : d.head < c.head). let t : true ≡ false = rw
-    (le-ltb c.weight d.weight more, eq-eqb c.weight d.weight same, lt-ltb d.head c.head low) at is in absurd (cc))
-    (λ (high : c.head ≤ d.head). inr (same, high))
-    (cases_lt d.head c.head))
-    (cases_lt d.weight c.weight))
-    (cases_lt c.weight d.weight)
+from_cmp c d is = grind (arith, common_steps, ⊎_elim, lt-ltb, le-ltb, eq-eqb, cases_lt)
 
 up_trans : (x y z : HotChain) → IsUpTo x y → IsUpTo y z → IsUpTo x z
 up_trans x y z (inl a) (inl b) = inl (omega arith)
@@ -160,6 +140,4 @@ chains-sorted xs sorted =
 -- one more list is concatenated
 pub flat_more : (f : HotChain → List ℕ) (xs : List HotChain) (i : ℕ) (d : HotChain) → i < length xs
     → flat_map f (take (i + 1) xs) ≡ flat_map f (take i xs) ++ f (get_or xs i d)
-flat_more f xs i d within =
-    ap (flat_map f) (take_more xs i d within) ∙ flat_map-append f (take i xs) (get_or xs i d ∷ [])
-    ∙ ap (λ ys. flat_map f (take i xs) ++ ys) (append-nil (f (get_or xs i d)))
+flat_more f xs i d within = grind (arith, common_steps, take_more, flat_map-append, append-nil)

@@ -8,8 +8,8 @@ use Rattle.std.proofs.lemmas.List.Elements.{Contains-append_left, Contains-push,
 use Rattle.std.proofs.lemmas.List.Quantifiers.{all_pairs_push}
 use Rattle.std.proofs.lemmas.List.Sorted.{Contains-permutation, IsPermutation-sym}
 use Rattle.rv_code.specs.layout.Lists.{IsPairBefore}
-use Rattle.std.specs.Option.{option_map_or}
 use Rattle.std.proofs.lemmas.Option.{slice_get-get_or}
+use Rattle.std.proofs.lemmas.Grind.{common_steps}
 use Rattle.rv_code.specs.declared.placed.Func.{Func}
 use Rattle.rv_code.specs.declared.placed.Block.{Block}
 use Rattle.rv_code.specs.layout.Blocks.{inst_address}
@@ -32,8 +32,7 @@ module _ (count : ℕ × ℕ → ℕ) (edges : List (ℕ × ℕ)) (i : ℕ) (d :
   more = take_more edges i d within
 
   in_more : (x : ℕ × ℕ) → Contains (take i edges) x → Contains (take (i + 1) edges) x
-  in_more x is =
-      subst (λ (es : List (ℕ × ℕ)). Contains es x) (sym more) (Contains-append_left (take i edges) (get_or edges i d ∷ []) x is)
+  in_more x is = grind (arith, common_steps, more)
 
   one_of : (x : ℕ × ℕ) → Contains (take (i + 1) edges) x → Contains (take i edges) x ⊎ (get_or edges i d ≡ x)
   one_of x is = Contains-push_cases (take i edges) (get_or edges i d) x (subst (λ (es : List (ℕ × ℕ)). Contains es x) more is)
@@ -120,8 +119,4 @@ pub edge_count-blocks : (counts : ℕ → ℕ → ℕ) (funcs : List Func) (bloc
     → e.0 < length blocks → e.1 < length blocks → edge_count counts funcs blocks e
     ≡ counts (inst_address funcs (get_or blocks e.0 d) (get_or blocks e.0 d).last)
     (inst_address funcs (get_or blocks e.1 d') (get_or blocks e.1 d').first)
-edge_count-blocks counts funcs blocks e d d' from to =
-    let source = slice_get-get_or blocks e.0 d from in
-    let target = slice_get-get_or blocks e.1 d' to in
-    λ i. counts (option_map_or (λ b. inst_address funcs b b.last) (source i) 0)
-    (option_map_or (λ b. inst_address funcs b b.first) (target i) 0)
+edge_count-blocks counts funcs blocks e d d' from to = grind (arith, common_steps, slice_get-get_or)

@@ -9,6 +9,7 @@ use Rattle.std.proofs.lemmas.List.{get_or_default}
 use Rattle.std.proofs.lemmas.List.Elements.{All-head, All-tail, All-contains, Contains-append_left, Contains-append_right}
 use Rattle.std.proofs.lemmas.List.Elements.{Contains-append_cases, Contains-get_or}
 use Rattle.std.proofs.lemmas.Option.{slice_get-get_or}
+use Rattle.std.proofs.lemmas.Grind.{common_steps}
 use Rattle.rv_code.specs.declared.placed.Block.{Block}
 use Rattle.rv_code.specs.layout.Lists.{ListsNumbers}
 use Rattle.rv_code.specs.layout.BlockOrders.{blocks_of_function}
@@ -107,11 +108,7 @@ module _ (n : ℕ) (p : Links) (links : AreBetween n p) where
 -- the test that a block is in a function
 of_test : (blocks : List Block) (f k : ℕ) → IsOf blocks f k →
     (option_map_or (λ (b : Block). b.func) (slice_get blocks k) 0 == f) ≡ true
-of_test blocks f k is =
-    let inside = IsOf-within blocks f k is in
-    let own = get_or-IsOf blocks f k nothing inside is in
-    eq-eqb (option_map_or (λ (b : Block). b.func) (slice_get blocks k) 0) f
-    (ap (λ (o : Option Block). option_map_or (λ (b : Block). b.func) o 0) (slice_get-get_or blocks k nothing inside) ∙ own)
+of_test blocks f k is = grind (arith, common_steps, get_or-IsOf, nothing, eq-eqb, slice_get-get_or)
 
 of_from_test : (blocks : List Block) (f k : ℕ) → k < length blocks →
     (option_map_or (λ (b : Block). b.func) (slice_get blocks k) 0 == f) ≡ true → IsOf blocks f k

@@ -1,22 +1,21 @@
 -- First blocks of functions.
-use Rattle.std.proofs.Common.{◌≡◌, ◌≢◌, ◌<◌, ◌≤◌, ◌-◌, ◌∙◌, ◌↔◌, ℕ, true, false, List, Option, length, get_or, arith, ap, sym}
+use Rattle.std.proofs.Common.{◌≡◌, ◌≢◌, ◌<◌, ◌≤◌, ◌-◌, ◌↔◌, ℕ, List, length, get_or, arith, ap}
 use Rattle.std.proofs.Common.{subst, inl, inr, ⊎_elim}
-use Rattle.std.specs.Prelude.{◌==◌, not, IsTrue, IsSomeAnd}
+use Rattle.std.specs.Prelude.{◌==◌, not, IsTrue}
 use Rattle.std.proofs.lemmas.Bool.{cases_lt, eq-eqb, ne_eqb}
 use Rattle.std.proofs.lemmas.List.{get_or_default}
 use Rattle.std.proofs.lemmas.Option.{slice_get-get_or}
+use Rattle.std.proofs.lemmas.Grind.{common_steps}
 use Rattle.rv_code.specs.declared.placed.Block.{Block}
 use Rattle.edge_profile.specs.BlockPlaces.{AreBlocksApart, IsApart}
 use Rattle.block_layout.specs.Parts.{IsOf, IsFirstBlock}
 
 -- the block with index k of a list
 pub IsOf-get_or : (blocks : List Block) (f k : ℕ) (d : Block) → k < length blocks → (get_or blocks k d).func ≡ f → IsOf blocks f k
-IsOf-get_or blocks f k d within is =
-    subst (λ (o : Option Block). IsSomeAnd o (λ b. b.func ≡ f)) (sym (slice_get-get_or blocks k d within)) is
+IsOf-get_or blocks f k d within is = grind (arith, common_steps, slice_get-get_or)
 
 pub get_or-IsOf : (blocks : List Block) (f k : ℕ) (d : Block) → k < length blocks → IsOf blocks f k → (get_or blocks k d).func ≡ f
-get_or-IsOf blocks f k d within is =
-    subst (λ (o : Option Block). IsSomeAnd o (λ b. b.func ≡ f)) (slice_get-get_or blocks k d within) is
+get_or-IsOf blocks f k d within is = grind (arith, common_steps, slice_get-get_or)
 
 -- functions don't descend along the blocks
 pub funcs_rise : (blocks : List Block) → AreBlocksApart blocks → (i j : ℕ) (d : Block) → i ≤ j → j < length blocks →
@@ -34,12 +33,10 @@ funcs_rise blocks apart i j d le within = ⊎_elim
 
 module _ (blocks : List Block) (apart : AreBlocksApart blocks) (k : ℕ) (d e : Block) (within : k < length blocks) where
   first_is : ((j : ℕ) → j < k → IsOf blocks (get_or blocks k d).func j → ⊥) → IsFirstBlock blocks k
-  first_is none = subst (λ (o : Option Block). IsSomeAnd o (λ b. (j : ℕ) → j < k → IsOf blocks b.func j → ⊥))
-      (sym (slice_get-get_or blocks k d within)) none
+  first_is none = grind (arith, common_steps, slice_get-get_or)
 
   first_of : IsFirstBlock blocks k → (j : ℕ) → j < k → IsOf blocks (get_or blocks k d).func j → ⊥
-  first_of is = subst (λ (o : Option Block). IsSomeAnd o (λ b. (j : ℕ) → j < k → IsOf blocks b.func j → ⊥))
-      (slice_get-get_or blocks k d within) is
+  first_of is = grind (arith, common_steps, slice_get-get_or)
 
   pub first_block_at_start : k ≡ 0 → IsFirstBlock blocks k
   first_block_at_start start = first_is (λ j less is. absurd (omega arith))
@@ -59,12 +56,4 @@ module _ (blocks : List Block) (apart : AreBlocksApart blocks) (k : ℕ) (d e : 
 
   pub first_block_test : 0 < k →
       (IsTrue (not ((get_or blocks (k - 1) e).func == (get_or blocks k d).func))) ↔ IsFirstBlock blocks k
-  first_block_test some = (
-    (λ other. first_block_after some (λ same.
-        let t = eq-eqb (get_or blocks (k - 1) e).func (get_or blocks k d).func same in
-        absurd (both (get_or blocks (k - 1) e).func (get_or blocks k d).func t other))),
-    (λ is. ap not (ne_eqb (get_or blocks (k - 1) e).func (get_or blocks k d).func (λ same. not_first_after some same is))),
-  )
-    where
-      both : (a b : ℕ) → (a == b) ≡ true → not (a == b) ≡ true → ⊥
-      both a b yes' no' = let t : false ≡ true = sym (ap not yes') ∙ no' in absurd (cc)
+  first_block_test some = grind (arith, common_steps, first_block_after, eq-eqb, ne_eqb, not_first_after)

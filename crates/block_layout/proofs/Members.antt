@@ -10,6 +10,7 @@ use Rattle.std.proofs.lemmas.List.FromFn.{get_or-range_with_len, length-range_wi
 use Rattle.std.proofs.lemmas.List.Kept.{AllPairs-cons, AllPairs-filter}
 use Rattle.std.proofs.lemmas.List.Sorted.{IsPermutation-refl, IsPermutation-cons, IsPermutation-trans, IsPermutation-sym}
 use Rattle.std.proofs.lemmas.List.Sorted.{IsPermutation-remove, Contains-permutation}
+use Rattle.std.proofs.lemmas.Grind.{common_steps}
 use Rattle.rb_bytes.proofs.Permuted.{AllPairs-permutation}
 
 abbrev pub Distinct : List ℕ → Type 0
@@ -97,8 +98,7 @@ in_filter p (x ∷ xs) z listed is =
 passed : (p : ℕ → Bool) (x z : ℕ) (ys : List ℕ) (b : Bool) → p x ≡ b → Contains (cond b (x ∷ ys) ys) z →
     ((x ≡ z) × (p z ≡ true)) ⊎ Contains ys z
 passed p x z ys false test listed = inr listed
-passed p x z ys true test listed =
-    ⊎_elim (λ (same : x ≡ z). inl (same, sym (ap p same) ∙ test)) (λ later. inr later) (in_cons x z ys listed)
+passed p x z ys true test listed = grind (arith, common_steps, ⊎_elim, in_cons)
 
 pub from_filter : (p : ℕ → Bool) (xs : List ℕ) (z : ℕ) → Contains (filter p xs) z → Contains xs z × (p z ≡ true)
 from_filter p [] z listed = absurd (none_in z listed)
@@ -113,17 +113,10 @@ in_range n z less =
     (z, omega arith, get_or-range_with_len 0 n z z less ∙ omega arith)
 
 pub from_range : (n z : ℕ) → Contains (range_with_len 0 n) z → z < n
-from_range n z (k, within, is) =
-    let long : length (range_with_len 0 n) ≡ n = length-range_with_len 0 n in
-    let at = get_or-range_with_len 0 n k z (omega arith) in
-    omega arith
+from_range n z (k, within, is) = grind (arith, common_steps, length-range_with_len, get_or-range_with_len)
 
 distinct_range : (n : ℕ) → Distinct (range_with_len 0 n)
-distinct_range n i j d less within same =
-    let long : length (range_with_len 0 n) ≡ n = length-range_with_len 0 n in
-    let at = get_or-range_with_len 0 n i d (omega arith) in
-    let at' = get_or-range_with_len 0 n j d (omega arith) in
-    omega arith
+distinct_range n i j d less within same = grind (arith, common_steps, length-range_with_len, get_or-range_with_len)
 
 pub distinct_filter : (p : ℕ → Bool) (n : ℕ) → Distinct (filter p (range_with_len 0 n))
 distinct_filter p n = AllPairs-filter (λ a b. a ≢ b) p (range_with_len 0 n) (distinct_range n)

@@ -1,10 +1,11 @@
 -- The parts of one more function.
-use Rattle.std.proofs.Common.{◌≡◌, ◌<◌, ◌≤◌, ◌+◌, ◌++◌, ◌∙◌, ℕ, List, [], ◌∷◌, length, get_or, map, arith, ap, sym, subst, ⊎_elim}
+use Rattle.std.proofs.Common.{◌≡◌, ◌<◌, ◌≤◌, ◌+◌, ◌++◌, ◌∙◌, ℕ, List, [], ◌∷◌, length, arith, ap, sym, subst, ⊎_elim}
 use Rattle.std.specs.Prelude.{Vec}
 use Rattle.std.specs.declared.alloc.Global.{Global}
 use Rattle.std.proofs.lemmas.Bool.{cases_lt}
 use Rattle.std.proofs.lemmas.List.{get_or_append_left, map-append, length-map, length-append}
 use Rattle.std.proofs.Math.Seq.{get_or-append_seam}
+use Rattle.std.proofs.lemmas.Grind.{common_steps}
 use Rattle.rv_code.specs.declared.placed.Block.{Block}
 use Rattle.rv_code.specs.layout.BlockOrders.{list_of}
 use Rattle.block_layout.specs.HotAndCold.{AreSplit, AreSplitTo}
@@ -15,23 +16,15 @@ Lists = Vec (Vec ℕ Global) Global
 
 list_of-left : (lists : List (Vec ℕ Global)) (v : Vec ℕ Global) (f : ℕ) → f < length lists →
     list_of (lists ++ v ∷ []) f ≡ list_of lists f
-list_of-left lists v f within =
-    let mapped : length (map (λ (l : Vec ℕ Global). l.items) lists) ≡ length lists = simp length-map in
-    ap (λ (ls : List (List ℕ)). get_or ls f []) (map-append (λ (l : Vec ℕ Global). l.items) lists (v ∷ []))
-    ∙ get_or_append_left (map (λ (l : Vec ℕ Global). l.items) lists) (v.items ∷ []) [] f (omega arith)
+list_of-left lists v f within = grind (arith, common_steps, length-map, map-append, get_or_append_left)
 
 list_of-last : (lists : List (Vec ℕ Global)) (v : Vec ℕ Global) (f : ℕ) → f ≡ length lists → list_of (lists ++ v ∷ []) f ≡ v.items
-list_of-last lists v f is =
-    let mapped : f ≡ length (map (λ (l : Vec ℕ Global). l.items) lists) = is ∙ sym (simp length-map) in
-    ap (λ (ls : List (List ℕ)). get_or ls f []) (map-append (λ (l : Vec ℕ Global). l.items) lists (v ∷ []))
-    ∙ ap (λ (k : ℕ). get_or (map (λ (l : Vec ℕ Global). l.items) lists ++ v.items ∷ []) k []) mapped
-    ∙ get_or-append_seam (map (λ (l : Vec ℕ Global). l.items) lists) v.items [] []
+list_of-last lists v f is = grind (arith, common_steps, length-map, map-append, get_or-append_seam)
 
 module _ (blocks : List Block) (weight : ℕ → ℕ) (p : Links) where
   pub split_none : (hot cold : Lists) → hot.items ≡ [] → cold.items ≡ [] →
       AreSplitTo blocks weight p 0 (record { hot = hot; cold = cold })
-  split_none hot cold none none' =
-      record { hot_count = ap length none; cold_count = ap length none'; each = λ f less. absurd (omega arith) }
+  split_none hot cold none none' = grind (arith, common_steps)
 
   pub split_more : (count : ℕ) (hot cold hot' cold' : Lists) (v w : Vec ℕ Global) → hot'.items ≡ hot.items ++ v ∷ []
       → cold'.items ≡ cold.items ++ w ∷ []

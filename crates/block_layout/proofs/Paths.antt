@@ -98,16 +98,12 @@ path_one p h = record { some = lit< tt; begins = refl; follows = λ k lt. absurd
 
 -- the last block of a longer path
 pub last_more : (xs : List ℕ) (t : ℕ) → t ≡ get_or (xs ++ t ∷ []) (length (xs ++ t ∷ []) - 1) 0
-last_more xs t =
-    let len : length (xs ++ t ∷ []) ≡ length xs + 1 = grind (arith, common_steps) in
-    let at : length (xs ++ t ∷ []) - 1 ≡ length xs = omega arith in
-    rw (at, get_or-append_seam xs t [] 0) refl
+last_more xs t = grind (arith, common_steps, get_or-append_seam)
 
 -- a path to a block that no other follows is a chain
 pub as_chain : {p : Links} {h last : ℕ} {xs : List ℕ} → IsPath p h xs → p.prev h ≡ None → last ≡ get_or xs (length xs - 1) 0 →
     p.next last ≡ None → IsChain p h xs
-as_chain {p} {h} {last} {xs} a first e none =
-    record { some = a.some; begins = a.begins; first = first; follows = a.follows; ends = rw (← e) none }
+as_chain {p} {h} {last} {xs} a first e none = grind (arith, common_steps)
 
 pub as_path : {p : Links} {h : ℕ} {xs : List ℕ} → IsChain p h xs → IsPath p h xs
 as_path a = record { some = a.some; begins = a.begins; follows = a.follows }

@@ -1,10 +1,10 @@
 -- The parts of functions, from the chains of a range of blocks.
-use Rattle.std.proofs.Common.{◌≡◌, ◌≢◌, ◌<◌, ◌≤◌, ◌++◌, ◌∙◌, ◌⊎◌, ℕ, zero, suc, List, [], ◌∷◌, Option, Some, None, length, get_or}
-use Rattle.std.proofs.Common.{map, flat_map, arith, refl, ap, sym, subst, inl, inr, ⊎_elim, All, AllPairs, Contains, add-one}
-use Rattle.std.specs.Prelude.{IsSomeAnd, slice_get}
+use Rattle.std.proofs.Common.{◌≡◌, ◌≢◌, ◌<◌, ◌≤◌, ◌++◌, ◌∙◌, ◌⊎◌, ℕ, zero, suc, List, [], ◌∷◌, length, get_or}
+use Rattle.std.proofs.Common.{map, flat_map, arith, ap, sym, subst, inl, inr, ⊎_elim, All, AllPairs, Contains, add-one}
 use Rattle.std.proofs.lemmas.List.{get_or_default, get_or-map, length-map}
 use Rattle.std.proofs.lemmas.List.Elements.{All-append, All-nil, All-head, All-tail, Contains-get_or}
 use Rattle.std.proofs.lemmas.List.Folds.{flat_map-map}
+use Rattle.std.proofs.lemmas.Grind.{common_steps}
 use Rattle.rv_code.specs.declared.placed.Block.{Block}
 use Rattle.rv_code.specs.layout.Lists.{ListsNumbers}
 use Rattle.block_layout.specs.HotAndCold.{IsHotOrEmpty, AreSplit}
@@ -52,32 +52,15 @@ module _ (blocks : List Block) (p : Links) (weight : ℕ → ℕ) (f start end :
 
   pub hot_between : (part : List ℕ) → IsHotOrEmpty p weight start end part → (start < end) ⊎ (part ≡ []) →
       All (λ k. (start ≤ k) × (k < end)) part
-  hot_between part is (inr none) =
-      subst (λ (ks : List ℕ). All (λ k. (start ≤ k) × (k < end)) ks) (sym none) (All-nil (λ k. (start ≤ k) × (k < end)))
-  hot_between part is (inl some) = ⊎_elim
-      (λ list. list_between part some list)
-      (λ (none : part ≡ []). subst (λ (ks : List ℕ). All (λ k. (start ≤ k) × (k < end)) ks) (sym none)
-      (All-nil (λ k. (start ≤ k) × (k < end))))
-      is.either
+  hot_between part is (inr none) = grind (arith, common_steps)
+  hot_between part is (inl some) = grind (arith, common_steps, ⊎_elim, list_between)
 
   -- the first block of the function
   first_here : start < end → IsFirstBlock blocks start
-  first_here some = at (slice_get blocks start) refl (from.inside start (omega arith) some)
-    where
-      at : (o : Option Block) → slice_get blocks start ≡ o → IsSomeAnd o (λ b. b.func ≡ f) → IsFirstBlock blocks start
-      at None is none = absurd none
-      at (Some b) is same =
-          subst (λ (o : Option Block). IsSomeAnd o (λ c. (j : ℕ) → j < start → IsOf blocks c.func j → ⊥)) (sym is)
-          (λ j less own. let range = from.all j (subst (λ (g : ℕ). IsOf blocks g j) same own) in let low = range.0 in omega arith)
+  first_here some = grind (arith, common_steps)
 
   not_first : (h : ℕ) → start < h → h < end → IsFirstBlock blocks h → ⊥
-  not_first h after before is = at (slice_get blocks h) refl (from.inside h (omega arith) before) is
-    where
-      at : (o : Option Block) → slice_get blocks h ≡ o → IsSomeAnd o (λ b. b.func ≡ f) →
-          IsSomeAnd o (λ c. (j : ℕ) → j < h → IsOf blocks c.func j → ⊥) → ⊥
-      at None e none none' = absurd none
-      at (Some b) e same first' =
-          first' start after (subst (λ (g : ℕ). IsOf blocks g start) (sym same) (from.inside start (omega arith) (omega arith)))
+  not_first h after before is = grind (arith, common_steps)
 
   module _ (others : List HotChain) (are : AreHotBetween p weight start end others) (sorted : AllPairs IsUpTo others)
       (some : start < end) where

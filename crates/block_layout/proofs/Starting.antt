@@ -1,8 +1,8 @@
 -- The ranges of the blocks of functions.
-use Rattle.std.proofs.Common.{◌≡◌, ◌≢◌, ◌<◌, ◌≤◌, ◌+◌, ℕ, List, Option, length, get_or, arith, refl, subst, ⊎_elim}
-use Rattle.std.specs.Prelude.{IsSomeAnd}
+use Rattle.std.proofs.Common.{◌≡◌, ◌≢◌, ◌<◌, ◌≤◌, ◌+◌, ℕ, List, length, get_or, arith, refl, ⊎_elim}
 use Rattle.std.proofs.lemmas.Bool.{cases_lt}
 use Rattle.std.proofs.lemmas.Option.{slice_get_past}
+use Rattle.std.proofs.lemmas.Grind.{common_steps}
 use Rattle.rv_code.specs.declared.placed.Block.{Block}
 use Rattle.edge_profile.specs.BlockPlaces.{AreBlocksApart}
 use Rattle.block_layout.specs.HotAndCold.{IsFirstOf}
@@ -15,15 +15,10 @@ nothing = record { func = 0; first = 0; last = 0 }
 
 -- a block of a function is in the list
 pub IsOf-within : (blocks : List Block) (f k : ℕ) → IsOf blocks f k → k < length blocks
-IsOf-within blocks f k is = ⊎_elim
-    (λ (within : k < length blocks). within)
-    (λ (past : length blocks ≤ k). absurd
-    (subst (λ (o : Option Block). IsSomeAnd o (λ b. b.func ≡ f)) (slice_get_past blocks k past) is))
-    (cases_lt k (length blocks))
+IsOf-within blocks f k is = grind (arith, common_steps, ⊎_elim, slice_get_past, cases_lt)
 
 pub start_at_none : (blocks : List Block) → IsFirstOf blocks 0 0
-start_at_none blocks =
-    record { within = omega arith; below = λ k g less is. absurd (omega arith); above = λ k g le is. omega arith }
+start_at_none blocks = grind (arith, common_steps)
 
 -- the blocks of a range are in a function, and no later block is
 module _ (blocks : List Block) (apart : AreBlocksApart blocks) (f start end : ℕ) (is : IsFirstOf blocks f start)

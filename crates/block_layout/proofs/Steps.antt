@@ -3,8 +3,9 @@ use Rattle.std.proofs.Common.{ℕ, ◌≡◌, ◌≢◌, ◌<◌, ◌≤◌, ◌
 use Rattle.std.proofs.Common.{ap, ⊎_elim, subst, Bool, true}
 use Rattle.std.proofs.lemmas.Bool.{cases_eq}
 use Rattle.std.proofs.Common.{get_or, set, length-set, get_or-set_same, get_or-set_other}
+use Rattle.std.proofs.lemmas.Grind.{common_steps}
 use Rattle.rb_bytes.proofs.Options.{option_cases}
-use Rattle.block_layout.specs.FirstLinks.{Taken, Refused, IsLinked, KnowsEnds, told, LinksLead, IsEdgeNumber, ends_of_edge}
+use Rattle.block_layout.specs.FirstLinks.{Taken, Refused, IsLinked, KnowsEnds, told, LinksLead, IsEdgeNumber}
 use Rattle.block_layout.specs.Links.{Links}
 use Rattle.block_layout.specs.declared.edge_counts.Edge.{Edge}
 use Rattle.block_layout.specs.declared.links.ChainLinks.{ChainLinks}
@@ -38,10 +39,7 @@ Grows-refl p = record { keeps = λ s t e. e }
 
 -- an index has one edge
 pub same_edge : (es : List Edge) (i k x y s t : ℕ) → IsEdgeNumber es i x y → IsEdgeNumber es k s t → i ≡ k → (x ≡ s) × (y ≡ t)
-same_edge es i k x y s t e f same =
-    let both : ends_of_edge es i ≡ ends_of_edge es k = ap (ends_of_edge es) same in
-    let h : (x, y) ≡ (s, t) = sym e.1 ∙ both ∙ f.1 in
-    (ap (λ (p : ℕ × ℕ). p.0) h, ap (λ (p : ℕ × ℕ). p.1) h)
+same_edge es i k x y s t e f same = grind (arith, common_steps)
 
 -- An edge that makes no link.
 pub refuse : {es : List Edge} {n : ℕ} {IsFirst : ℕ → Type 0} {k : ℕ} {p : Links} (s t : ℕ) → IsEdgeNumber es k s t →
@@ -60,11 +58,7 @@ refuse {es} {n} {IsFirst} {k} {p} s t at why l = record {
 
 pub ends_refuse : {es : List Edge} {n k : ℕ} {p : Links} {head tail : ℕ → ℕ} → KnowsEnds es n k p head tail →
     KnowsEnds es n (k + 1) p head tail
-ends_refuse {es} {n} {k} {p} {head} {tail} u = record {
-  inside = u.inside;
-  ends = λ e below none. let w = u.ends e below none in (w.0, w.1, Runs-grow (Grows-refl p) (omega arith) w.2);
-  starts = u.starts;
-}
+ends_refuse {es} {n} {k} {p} {head} {tail} u = grind (arith, common_steps, Runs-grow, Grows-refl)
 
 -- An edge that makes a link.
 pub record Joins (p q : Links) (head tail head' tail' : ℕ → ℕ) (s t : ℕ) : Type 0 where
@@ -88,10 +82,7 @@ pub record Free (p : Links) (head : ℕ → ℕ) (n : ℕ) (IsFirst : ℕ → Ty
 
 pub Joins-grow : {p q : Links} {head tail head' tail' : ℕ → ℕ} {s t : ℕ} → p.next s ≡ None →
     Joins p q head tail head' tail' s t → Grows p q
-Joins-grow {p} {q} {head} {tail} {head'} {tail'} {s} {t} none j = record {
-  keeps = λ x y e. ⊎_elim (λ (same : x ≡ s). absurd (let f : p.next x ≡ p.next s = ap p.next same in cc))
-      (λ (ne : x ≢ s). j.next_else x ne ∙ e) (cases_eq x s);
-}
+Joins-grow {p} {q} {head} {tail} {head'} {tail'} {s} {t} none j = grind (arith, common_steps, ⊎_elim, cases_eq)
 
 pub accept : {es : List Edge} {n : ℕ} {IsFirst : ℕ → Type 0} {k : ℕ} {p q : Links} {head tail head' tail' : ℕ → ℕ} {s t : ℕ} →
     IsEdgeNumber es k s t → Free p head n IsFirst s t → Joins p q head tail head' tail' s t → KnowsEnds es n k p head tail →
@@ -244,16 +235,7 @@ pub as_joins : {n s t : ℕ} {a b : ChainLinks} → length a.next.items ≡ n �
     → length a.tail.items ≡ n → get_or a.tail.items t 0 < n → get_or a.head.items s 0 < n → s < n → t < n → IsJoined a b s t
     → Joins (told a.next.items a.prev.items) (told b.next.items b.prev.items) (λ x. get_or a.head.items x 0)
     (λ x. get_or a.tail.items x 0) (λ x. get_or b.head.items x 0) (λ x. get_or b.tail.items x 0) s t
-as_joins {n} {s} {t} {a} {b} nl pl hl tl e_in h_in s_in t_in j = record {
-  next_here = write_here _ _ s (Some t) None j.next (omega arith);
-  next_else = λ x ne. write_else _ _ s x (Some t) None j.next ne;
-  prev_here = write_here _ _ t (Some s) None j.prev (omega arith);
-  prev_else = λ x ne. write_else _ _ t x (Some s) None j.prev ne;
-  head_here = write_here _ _ (get_or a.tail.items t 0) (get_or a.head.items s 0) 0 j.head (omega arith);
-  head_else = λ x ne. write_else _ _ (get_or a.tail.items t 0) x (get_or a.head.items s 0) 0 j.head ne;
-  tail_here = write_here _ _ (get_or a.head.items s 0) (get_or a.tail.items t 0) 0 j.tail (omega arith);
-  tail_else = λ x ne. write_else _ _ (get_or a.head.items s 0) x (get_or a.tail.items t 0) 0 j.tail ne;
-}
+as_joins {n} {s} {t} {a} {b} nl pl hl tl e_in h_in s_in t_in j = grind (arith, common_steps, write_here, write_else)
 
 pub join_step : {es : List Edge} {n : ℕ} {IsFirst : ℕ → Type 0} {k s t : ℕ} {a b : ChainLinks} → IsEdgeNumber es k s t →
     IsReady es n IsFirst k a → IsJoined a b s t →

@@ -3,6 +3,7 @@
 use Rattle.std.proofs.Common.{ℕ, zero, suc, ◌≡◌, ◌<◌, ◌≤◌, ◌-◌, ◌⊎◌, List, Option, Some, None, refl, sym, subst, inl, inr, arith}
 use Rattle.std.specs.Prelude.{Contains, sum_by}
 use Rattle.std.proofs.lemmas.List.Sums.{get_or-le-sum_by}
+use Rattle.std.proofs.lemmas.Grind.{common_steps}
 use Rattle.block_layout.specs.EdgeCounts.{IsEarlier}
 use Rattle.block_layout.specs.Links.{Links, LeadBefore, IsLeftOut, Lead, AreLinks, at_once, on, source_taken, target_taken}
 use Rattle.block_layout.specs.Links.{first_block, closes, stays, goes}
@@ -19,12 +20,7 @@ strong P step n = from_lower P step (suc n) n (omega arith)
 
 -- no edge is earlier than itself
 not_earlier : (count : ℕ × ℕ → ℕ) (s t u : ℕ) → u ≡ t → IsEarlier count (s, u) (s, t) → ⊥
-not_earlier count s t u same earlier = irreflexive (subst (λ v. IsEarlier count (s, v) (s, t)) same earlier)
-  where
-    irreflexive : IsEarlier count (s, t) (s, t) → ⊥
-    irreflexive (inl more) = omega arith
-    irreflexive (inr (_, inl lower)) = omega arith
-    irreflexive (inr (_, inr (_, lower))) = omega arith
+not_earlier count s t u same earlier = grind (arith, common_steps)
 
 one_value : {x y : ℕ} → {o : Option ℕ} → o ≡ Some x → o ≡ Some y → x ≡ y
 one_value is is' = cc
@@ -59,15 +55,11 @@ module _ (edges : List (ℕ × ℕ)) (count : ℕ × ℕ → ℕ) (IsFirst : ℕ
 
   not_left_out : (p q : Links) → AreLinks edges count IsFirst p → (s t : ℕ) → AreKeptBefore p q s t → p.next s ≡ Some t →
       IsLeftOut count q IsFirst s t → ⊥
-  not_left_out p q are s t kept joined (source_taken u linked) =
-      not_earlier count s t u (one_value (kept s u linked.earlier linked.next) joined) linked.earlier
+  not_left_out p q are s t kept joined (source_taken u linked) = grind (arith, common_steps, not_earlier, one_value)
   not_left_out p q are s t kept joined (target_taken u linked) =
       let same : u ≡ s = one_value (are.back u t (kept u t linked.earlier linked.next)) (are.back s t joined) in
       not_earlier count s t t refl (subst (λ v. IsEarlier count (v, t) (s, t)) same linked.earlier)
-  not_left_out p q are s t kept joined (first_block is) =
-      let none : p.prev t ≡ None = are.first t is in
-      let one : p.prev t ≡ Some s = are.back s t joined in
-      absurd (cc)
+  not_left_out p q are s t kept joined (first_block is) = grind (arith, common_steps)
   not_left_out p q are s t kept joined (closes way) =
       let (h, none, from) = are.whole t in
       begins_before p are.back s t joined (lead_on p q s t kept way) from stays none

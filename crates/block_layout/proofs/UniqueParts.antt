@@ -1,10 +1,11 @@
 -- At most one choice of the hot and the cold part of each function satisfies AreParts.
-use Rattle.std.proofs.Common.{ℕ, zero, suc, ◌≡◌, ◌<◌, ◌≤◌, ◌⊎◌, ◌∙◌, Bool, true, false, List, [], ◌∷◌, ◌++◌, Option, Some, None}
+use Rattle.std.proofs.Common.{ℕ, zero, suc, ◌≡◌, ◌<◌, ◌⊎◌, ◌∙◌, Bool, true, false, List, [], ◌∷◌, ◌++◌, Option, Some, None}
 use Rattle.std.proofs.Common.{Contains, AllPairs, length, flat_map, refl, sym, ap, subst, inl, inr, ⊎_elim, arith}
-use Rattle.std.specs.Prelude.{IsSomeAnd, Vec, slice_get}
+use Rattle.std.specs.Prelude.{IsSomeAnd, Vec}
 use Rattle.std.specs.declared.alloc.Global.{Global}
 use Rattle.std.proofs.lemmas.Bool.{cases_lt}
 use Rattle.std.proofs.lemmas.List.{get_or_default, same_lists, length-map}
+use Rattle.std.proofs.lemmas.Grind.{common_steps}
 use Rattle.rv_code.specs.declared.placed.Block.{Block}
 use Rattle.rv_code.specs.declared.layout.Chains.{Chains}
 use Rattle.rv_code.specs.layout.BlockOrders.{list_of}
@@ -63,13 +64,7 @@ none_before blocks f k n (Some b) less of is first = first k less (subst (λ g. 
 
 one_first : (blocks : List Block) (f k n : ℕ) → IsOf blocks f k → IsFirstBlock blocks k → IsOf blocks f n →
     IsFirstBlock blocks n → k ≡ n
-one_first blocks f k n of first of' first' = ⊎_elim
-    (λ (less : k < n). absurd (none_before blocks f k n (slice_get blocks n) less of of' first'))
-    (λ (more : n ≤ k). ⊎_elim
-    (λ (less : n < k). absurd (none_before blocks f n k (slice_get blocks k) less of' of first))
-    (λ (le : k ≤ n). omega arith)
-    (cases_lt n k))
-    (cases_lt k n)
+one_first blocks f k n of first of' first' = grind (arith, common_steps, ⊎_elim, none_before, cases_lt)
 
 -- Hot chains.
 one_way_at : (a b m n : ℕ) → (b < a) ⊎ ((a ≡ b) × (m < n)) → (a < b) ⊎ ((b ≡ a) × (n < m)) → ⊥

@@ -8,6 +8,7 @@ use Rattle.std.proofs.lemmas.List.{get_or-map, get_or_past, length-map}
 use Rattle.std.proofs.lemmas.List.Elements.{Contains-get_or, All-contains}
 use Rattle.std.proofs.lemmas.List.Folds.{Any-from_list_any, list_any_at}
 use Rattle.std.proofs.lemmas.Option.{slice_get-get_or, slice_get_past, slice_get_within}
+use Rattle.std.proofs.lemmas.Grind.{common_steps}
 use Rattle.rv_code.specs.declared.placed.Func.{Func}
 use Rattle.rv_code.specs.declared.placed.Block.{Block}
 use Rattle.rv_code.specs.declared.layout.Chains.{Chains}
@@ -29,13 +30,7 @@ use Rattle.block_layout.proofs.Starting.{nothing, IsOf-within}
 -- Edges.
 
 within_of : (blocks : List Block) (e : ℕ × ℕ) → IsInner blocks e → IsWithin (length blocks) e
-within_of blocks e is = at (slice_get blocks e.0) (slice_get blocks e.1) refl refl is
-  where
-    at : (s t : Option Block) → slice_get blocks e.0 ≡ s → slice_get blocks e.1 ≡ t →
-        IsSomeAnd s (λ b. IsSomeAnd t (λ c. b.func ≡ c.func)) → IsWithin (length blocks) e
-    at None t is' is'' none = absurd none
-    at (Some b) None is' is'' none = absurd none
-    at (Some b) (Some c) is' is'' same = (slice_get_within blocks e.0 b is', slice_get_within blocks e.1 c is'')
+within_of blocks e is = grind (arith, common_steps, slice_get_within)
 
 pub all_within : (blocks : List Block) (edges : List (ℕ × ℕ)) → All (IsInner blocks) edges → All (IsWithin (length blocks)) edges
 all_within blocks edges inner k d within = within_of blocks (get_or edges k d) (inner k d within)

@@ -1,4 +1,5 @@
 use Rattle.std.proofs.Common.{◌≡◌, ◌∙◌, ◌+◌, List, refl, sym, subst, arith, get_or}
+use Rattle.std.proofs.lemmas.Grind.{common_steps}
 use Rattle.rv_code.specs.declared.placed.Block.{Block}
 use Rattle.edge_profile.specs.Profile.{profile_counts}
 use Rattle.block_layout.specs.EdgeCounts.{edge_count}
@@ -34,10 +35,7 @@ loop-edge-preserved-then-count-eq0 c =
     (0, 0) c.loop-edge-test.true c.loop-edge.taken.items c.loop-edge.invariant (own ∙ c.if-count-eq0.true)
 
 pub returns-clause-counted : goal.returns-clause-counted
-returns-clause-counted c =
-    let count = edge_count (profile_counts c.args.profile.now) c.args.funcs.now c.args.blocks.now in
-    counted_all count c.args.edges.now c.loop-edge.edge-index c.loop-edge.taken.items _ c.loop-edge-test.false
-    c.loop-edge.invariant c.sort_edges.ensures.permutation
+returns-clause-counted c = grind (arith, common_steps, counted_all)
 
 pub returns-clause-once : goal.returns-clause-once
 returns-clause-once c =

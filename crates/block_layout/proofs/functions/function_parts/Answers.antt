@@ -1,16 +1,12 @@
-use Rattle.std.proofs.Common.{◌≡◌, ℕ, slice_index, subst, arith}
-use Rattle.block_layout.specs.HotAndCold.{AreSplitTo}
+use Rattle.std.proofs.Common.{slice_index, arith}
+use Rattle.std.proofs.lemmas.Grind.{common_steps}
 use Rattle.block_layout.specs.Walks.{links_of}
 use Rattle.block_layout.proofs.Starting.{start_at_none}
 use Rattle.block_layout.proofs.PartLists.{split_none, split_more}
 use Rattle.block_layout.proofs.functions.function_parts.Goals as goal
 
 pub loop-func-init : goal.loop-func-init
-loop-func-init c = (
-  start_at_none c.args.blocks.now,
-  split_none c.args.blocks.now (λ k. slice_index c.args.weights.now k)
-      (links_of c.args.links.now) c.new-hot.result c.new-cold.result c.new-hot.ensures.items c.new-cold.ensures.items,
-)
+loop-func-init c = grind (arith, common_steps, start_at_none, split_none, slice_index)
 
 pub loop-func-preserved : goal.loop-func-preserved
 loop-func-preserved c = (
@@ -23,8 +19,4 @@ loop-func-preserved c = (
 )
 
 pub returns : goal.returns
-returns c =
-    let all : c.loop-func.func ≡ c.args.count = omega arith in
-    subst (λ (n : ℕ). AreSplitTo c.args.blocks.now (λ k. slice_index c.args.weights.now k) (links_of c.args.links.now) n
-    (record { hot = c.loop-func.hot; cold = c.loop-func.cold })) all
-    c.loop-func.invariant.1
+returns c = grind (arith, common_steps, slice_index)

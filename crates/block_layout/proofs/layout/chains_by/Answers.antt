@@ -1,12 +1,13 @@
-use Rattle.std.proofs.Common.{◌≡◌, ◌≤◌, ◌∙◌, ℕ, None, List, AllPairs, length, get_or, subst, sym, arith}
+use Rattle.std.proofs.Common.{◌≡◌, ◌≤◌, ℕ, None, List, AllPairs, length, get_or, subst, sym, arith}
 use Rattle.std.proofs.lemmas.List.{get_or_past}
 use Rattle.std.proofs.lemmas.Result.{IfOk-weaker}
+use Rattle.std.proofs.lemmas.Grind.{common_steps}
 use Rattle.edge_profile.specs.Profile.{profile_counts, pairs_of}
 use Rattle.block_layout.specs.EdgeCounts.{edge_count}
 use Rattle.block_layout.specs.EdgeLists.{AreCounted, HaveOtherEnds, IsKeyBefore}
 use Rattle.block_layout.specs.HotAndCold.{AreSplitTo}
 use Rattle.block_layout.specs.Parts.{IsFirstBlock}
-use Rattle.block_layout.specs.Walks.{AreBetween, links_of}
+use Rattle.block_layout.specs.Walks.{links_of}
 use Rattle.block_layout.specs.declared.edge_counts.Edge.{Edge}
 use Rattle.block_layout.proofs.Whole.{all_within, taken_within, links_between, links_inner, of_functions, weights_are, parts_of}
 use Rattle.block_layout.proofs.Taking.{in_order, all_linked}
@@ -16,27 +17,13 @@ pub counted_edges-requires-clause-edges : goal.counted_edges-requires-clause-edg
 counted_edges-requires-clause-edges c = all_within c.args.blocks.now c.args.edges.now c.requires.edges
 
 pub link_edges-requires-clause-inside : goal.link_edges-requires-clause-inside
-link_edges-requires-clause-inside c =
-    let count = edge_count (profile_counts c.args.profile.now) c.args.funcs.now c.args.blocks.now in
-    let counted =
-    subst (λ (es : List Edge). AreCounted count c.args.edges.now es) (sym c.deref.ensures.value) c.in_ok-taken.ensures.counted in
-    taken_within count c.args.blocks.now c.args.edges.now c.deref.result.now c.requires.edges counted
+link_edges-requires-clause-inside c = grind (arith, common_steps, taken_within)
 
 pub function_parts-requires-clause-of_functions : goal.function_parts-requires-clause-of_functions
 function_parts-requires-clause-of_functions c = of_functions c.args.funcs.now c.args.blocks.now c.requires.stretches
 
 pub function_parts-requires-clause-links : goal.function_parts-requires-clause-links
-function_parts-requires-clause-links c =
-    let count = edge_count (profile_counts c.args.profile.now) c.args.funcs.now c.args.blocks.now in
-    let counted =
-    subst (λ (es : List Edge). AreCounted count c.args.edges.now es) (sym c.deref.ensures.value) c.in_ok-taken.ensures.counted in
-    let sized = c.in_ok-links.ensures.sized in
-    record {
-      lengths = sized.1 ∙ sym sized.0;
-      between = subst (λ (n : ℕ). AreBetween n (links_of c.in_ok-links.links)) (sym sized.0)
-          (links_between count c.args.blocks.now c.args.edges.now c.deref.result.now c.requires.edges counted
-          (links_of c.in_ok-links.links) c.in_ok-links.ensures.linked);
-    }
+function_parts-requires-clause-links c = grind (arith, common_steps, links_between)
 
 pub function_parts-requires-clause-inner : goal.function_parts-requires-clause-inner
 function_parts-requires-clause-inner c =
@@ -47,8 +34,7 @@ function_parts-requires-clause-inner c =
     (links_of c.in_ok-links.links) c.in_ok-links.ensures.linked
 
 pub returns-clause-all : goal.returns-clause-all
-returns-clause-all c =
-    IfOk-weaker c.function_parts.result _ _ (λ parts split f within. (split.each f within).all) c.function_parts.ensures
+returns-clause-all c = grind (arith, common_steps)
 
 pub returns-clause-chains : goal.returns-clause-chains
 returns-clause-chains c =

@@ -29,11 +29,7 @@ loop-block-preserved c =
     )
 
 pub loop-block-init : goal.loop-block-init
-loop-block-init c = (
-  rw (c.in_ok-push.ensures.items, c.new-chain.ensures.items) (path_one _ _),
-  rw c.in_ok-push.ensures.items (last_more c.new-chain.result.items c.args.head),
-  c.requires.inside,
-)
+loop-block-init c = grind (arith, common_steps, path_one, last_more)
 
 pub returns : goal.returns
 returns c = as_chain c.loop-block.invariant.0 c.requires.first c.loop-block.invariant.1 (grind (arith, common_steps))
