@@ -1,12 +1,10 @@
 -- The roles of accepted code: each fits its instruction, both instructions of a pair have one target, and targets that aren't code have low
 -- addresses. All this follows from references without faults.
-use Rattle.std.proofs.Common.{◌≡◌, ◌≢◌, ℕ, ◌+◌, ◌*◌, ◌^◌, ◌<◌, ◌≤◌, List, Option, Some, None, Bool, true, false, refl, sym, ap}
+use Rattle.std.proofs.Common.{◌≡◌, ◌≢◌, ℕ, ◌+◌, ◌*◌, ◌^◌, ◌<◌, ◌≤◌, List, Some, true, false, refl, sym, ap}
 use Rattle.std.proofs.Common.{◌∙◌, subst, arith, inl, inr, ◌⊎◌, ℤ, pos}
 use Rattle.std.specs.Prelude.{◌==◌, IsTrue, IsSome}
 use Rattle.std.specs.List.{Contains, Any}
 use Rattle.std.proofs.lemmas.Int.{ints}
-use Rattle.std.specs.Ordering.{int_eq}
-use Rattle.std.proofs.lemmas.Bool.Decides.{Decides-int_eq}
 use Rattle.std.proofs.lemmas.Bool.{eqb-true, ne_eqb, cases_lt, or_cases}
 use Rattle.std.proofs.lemmas.Grind.{common_steps}
 use Rattle.rv_code.specs.declared.inst.Inst.{Inst}

@@ -1,6 +1,6 @@
 -- Which instructions have an opcode; and an AUIPC, a LUI and a JALR are decoded in only one way.
-use Rattle.std.proofs.Common.{◌≡◌, ℕ, ◌+◌, ◌*◌, ◌^◌, Some, Bool, true, false, refl, sym, ◌∙◌, arith, inl, inr, ℤ, pos}
-use Rattle.std.specs.Prelude.{◌==◌, ◌||◌, if◌then◌else◌}
+use Rattle.std.proofs.Common.{◌≡◌, ℕ, ◌+◌, ◌*◌, ◌^◌, Some, refl, sym, ◌∙◌, arith, inl, inr, ℤ, pos}
+use Rattle.std.specs.Prelude.{◌==◌, if◌then◌else◌}
 use Rattle.std.proofs.lemmas.Grind.{common_steps}
 use Rattle.rv_code.specs.isa.Bits.{field, imm_i, imm_s, imm_u}
 use Rattle.rv_code.specs.isa.FullRows.{IsFull}
@@ -13,7 +13,6 @@ use Rattle.rv_code.specs.declared.inst.Inst.TheVariants.{Srliw, Sraiw, Addw, Sub
 use Rattle.rv_code.specs.declared.inst.Inst.TheVariants.{Rem, Remu, Mulw, Divw, Divuw, Remw, Remuw}
 use Rattle.elf_image.specs.declared.elf.Elf.{Elf}
 use Rattle.elf_code.specs.Parts.{halfword_at, IsInstAt}
-use Rattle.elf_image.specs.declared.relocation.TheConstants.{R_RISCV_PCREL_LO12_I, R_RISCV_LO12_I}
 use Rattle.elf_code.specs.Roles.{immediate_i, immediate_s, lower_immediate}
 use Rattle.rv_code.specs.isa.AddressParts.{IsAuipc, IsLui, TakesLower}
 use Rattle.move_law.specs.FaithfulRewrite.{with_immediate}

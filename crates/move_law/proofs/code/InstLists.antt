@@ -1,7 +1,7 @@
 -- The lists of instructions of accepted code: each instruction is in its function, and each start that something refers to is in a list.
-use Rattle.std.proofs.Common.{◌≡◌, ℕ, zero, ◌+◌, ◌%◌, ◌<◌, List, [], ◌∷◌, Option, Some, None, Bool, true, false, refl, sym, ◌∙◌}
+use Rattle.std.proofs.Common.{◌≡◌, ℕ, zero, ◌+◌, ◌<◌, List, [], ◌∷◌, Option, Some, None, Bool, true, false, refl, sym, ◌∙◌}
 use Rattle.std.proofs.Common.{subst, arith, inl, inr, ◌⊎◌}
-use Rattle.std.specs.Prelude.{if◌then◌else◌, ◌==◌, is_some}
+use Rattle.std.specs.Prelude.{◌==◌, is_some}
 use Rattle.std.specs.List.{Contains}
 use Rattle.std.proofs.lemmas.Bool.{eq-eqb, eqb-true, ne_eqb}
 use Rattle.std.proofs.lemmas.Grind.{common_steps}
@@ -13,7 +13,7 @@ use Rattle.rv_code.specs.layout.Flow.{insts_of, placed_at}
 use Rattle.elf_image.specs.declared.elf.Elf.{Elf}
 use Rattle.elf_code.specs.FileCode.{IsCodeOf}
 use Rattle.elf_code.specs.Functions.{AreInsts, IsFunctionPart, IsNopPart, IsReferred, code, referred}
-use Rattle.elf_code.specs.Parts.{halfword_in, length_in, length_at, IsInstIn, IsInstAt, StartsIn, at_start, after, IsStart}
+use Rattle.elf_code.specs.Parts.{length_in, length_at, IsInstIn, IsInstAt, StartsIn, at_start, after, IsStart}
 use Rattle.elf_image.specs.memory.LoadedBytes.{byte_at}
 use Rattle.elf_code.specs.Roles.{RoleIs}
 use Rattle.rb_bytes.proofs.Searches.{find-found}

@@ -1,7 +1,7 @@
 -- Facts of an executable that the reader accepts: its loaded addresses, its bytes, and numbers of several bytes.
-use Rattle.std.proofs.Common.{◌≡◌, ℕ, ◌+◌, ◌-◌, ◌/◌, ◌%◌, ◌^◌, ◌<◌, ◌≤◌, List, Option, Some, None, Bool, true, false, refl, sym}
+use Rattle.std.proofs.Common.{◌≡◌, ℕ, ◌+◌, ◌-◌, ◌/◌, ◌%◌, ◌^◌, ◌<◌, List, Option, Some, None, Bool, true, false, refl, sym}
 use Rattle.std.proofs.Common.{ap, ◌∙◌, subst, arith, inl, inr, get_or, length, All}
-use Rattle.std.specs.Prelude.{if◌then◌else◌, nat_lt, nat_le, IsTrue, option_map, unwrap_or, slice_index}
+use Rattle.std.specs.Prelude.{if◌then◌else◌, nat_lt, IsTrue, option_map, unwrap_or, slice_index}
 use Rattle.std.specs.Option.{option_map_or}
 use Rattle.std.proofs.lemmas.Bool.{and_parts, leb-true, cases_lt}
 use Rattle.std.proofs.lemmas.List.{get_or_default, get_or_past}
@@ -15,7 +15,7 @@ use Rattle.elf_image.specs.memory.Image.{is_loaded_with, has_flag, segment_of, l
 use Rattle.rv_code.specs.machine.MemoryNumbers.{bytes_in, number_in}
 use Rattle.rv_code.specs.layout.FunctionLists.{address_end}
 use Rattle.elf_image.specs.file.ParsedFile.{IsElfOf}
-use Rattle.rv_memory.specs.Start.{start_memory, stack_byte, stack_end, stack_size, in_stack}
+use Rattle.rv_memory.specs.Start.{start_memory, stack_byte, in_stack}
 use Rattle.rb_bytes.proofs.Searches.{find-found}
 use Rattle.elf_image.proofs.ReadLists.{get_or-segments, LoadOnce-apart}
 use Rattle.elf_image.specs.memory.Executables.{Executable, executable_of, executable_read, memory_of}

@@ -8,7 +8,7 @@ use Rattle.std.proofs.lemmas.Grind.{common_steps}
 use Rattle.rv_code.specs.machine.Machine.{low_bytes}
 use Rattle.elf_image.specs.declared.segment.TheConstants.{PHDR_SIZE}
 use Rattle.elf_image.specs.file.Header.{e_entry, e_phnum}
-use Rattle.rv_memory.specs.Start.{start_bytes, stack_bytes, stack_pointer, stack_end, stack_size}
+use Rattle.rv_memory.specs.Start.{stack_bytes, stack_pointer, stack_end, stack_size}
 use Rattle.rv_memory.specs.Start.{random_address, random_bytes, program_arguments, texts, texts_address, text_addresses}
 use Rattle.rv_memory.proofs.StackLengths.{length-text_addresses}
 use Rattle.elf_image.specs.memory.Break.{table_address, page_size}

@@ -26,7 +26,7 @@ use Rattle.addr_map.specs.declared.span.Span.{Span}
 use Rattle.sym_machine.specs.SymStart.{program_start}
 use Rattle.sym_machine.specs.declared.value.Pointer.TheVariants as pointer
 use Rattle.move_law.specs.FaithfulRewrite.{GetsToNext, GoesOn, HasInSpan, IsFaithful, IsMapOf, KeepsAction, KeepsCell, KeepsInst}
-use Rattle.move_law.specs.FaithfulRewrite.{made_anew, next, same}
+use Rattle.move_law.specs.FaithfulRewrite.{made_anew, same}
 use Rattle.move_law.specs.Laws.{IdentityIsFaithful, IdentityLaw, IsAcceptedCode, KeepsCode, RunsAreReal, identity, own_spans}
 use Rattle.move_law.specs.Rewrite.{Goes, HasAt, Rewrite, inst_end, jumps, out, program, stays}
 use Rattle.elf_image.specs.memory.Executables.{AreCodeBytes, executable_read}

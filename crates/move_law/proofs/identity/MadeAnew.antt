@@ -1,5 +1,5 @@
 -- If code stays at its addresses, an instruction with a part of an address has the immediate that is computed for it.
-use Rattle.std.proofs.Common.{◌≡◌, ◌≢◌, ℕ, ◌+◌, ◌*◌, ◌^◌, List, refl, sym, ap, ◌∙◌, subst, arith, inl, inr, ◌⊎◌, ℤ, pos}
+use Rattle.std.proofs.Common.{◌≡◌, ◌≢◌, ℕ, ◌+◌, List, refl, sym, ap, ◌∙◌, subst, arith, inl, inr, ◌⊎◌, ℤ, pos}
 use Rattle.std.specs.Prelude.{Contains}
 use Rattle.std.proofs.lemmas.Int.{ints}
 use Rattle.std.proofs.lemmas.Grind.{common_steps}
@@ -10,7 +10,7 @@ use Rattle.rv_code.specs.declared.placed.Role.{Role}
 use Rattle.elf_image.specs.declared.elf.Elf.{Elf}
 use Rattle.elf_image.specs.declared.relocation.TheConstants.{R_RISCV_HI20}
 use Rattle.elf_code.specs.FileCode.{IsCodeOf}
-use Rattle.elf_code.specs.Parts.{halfword_at, IsInstAt}
+use Rattle.elf_code.specs.Parts.{IsInstAt}
 use Rattle.elf_code.specs.Relocations.{Relocation}
 use Rattle.elf_code.specs.Roles.{IsAbsoluteLow, Claims, HasRole, RoleIs, CallPair, PcrelLo}
 use Rattle.elf_code.specs.Roles as claims

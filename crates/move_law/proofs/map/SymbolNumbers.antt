@@ -1,7 +1,7 @@
 -- The numbers of the symbols that can occur in a run of the input.
-use Rattle.std.proofs.Common.{◌≡◌, ℕ, suc, ◌+◌, ◌-◌, ◌/◌, ◌%◌, ◌^◌, ◌<◌, ◌≤◌, Option, Some, None, Bool, true, false, refl, sym}
+use Rattle.std.proofs.Common.{◌≡◌, ℕ, ◌+◌, ◌/◌, ◌%◌, ◌^◌, ◌<◌, ◌≤◌, Option, Some, None, Bool, true, false, refl, sym}
 use Rattle.std.proofs.Common.{ap, ◌∙◌, subst, arith, inl, inr, ◌⊎◌, ℤ, pos, negsuc, ◌+ℤ◌, ◌-ℤ◌, ◌*ℤ◌, ◌≤ℤ◌}
-use Rattle.std.specs.Prelude.{if◌then◌else◌, IsSomeAnd, nat_lt, bit_xor}
+use Rattle.std.specs.Prelude.{IsSomeAnd, bit_xor}
 use Rattle.std.specs.List.{Contains}
 use Rattle.std.specs.Option.{option_map_or}
 use Rattle.std.specs.Int.{int_shr, w8, w16, w32, cast_signed}
@@ -24,7 +24,6 @@ use Rattle.rv_code.specs.isa.Action.{action_of}
 use Rattle.rv_code.specs.layout.ProgramCode.{is_code_address, IsNamed}
 use Rattle.rv_code.specs.isa.Extension.{extended}
 use Rattle.rv_code.specs.layout.Flow.{insts_of, placed_at, action_at}
-use Rattle.rv_code.specs.isa.HiLo.{hi20}
 use Rattle.rv_code.specs.machine.Machine.{plus}
 use Rattle.rv_code.specs.isa.Op.{apply}
 use Rattle.rv_code.specs.isa.TwosComplement.{unsigned64}

@@ -31,7 +31,7 @@ use Rattle.sym_machine.specs.Rules.{is_lower, is_hi, is_abs, joined, goal, place
 use Rattle.sym_machine.specs.SymStep.{SymState, SymOutcome, needs}
 use Rattle.sym_machine.specs.SymStep as symbol
 use Rattle.move_law.specs.Rewrite.{Rewrite, out}
-use Rattle.move_law.specs.RelocatedValues.{distance, hi20_value, target_at, upper_target, number_of_pointer}
+use Rattle.move_law.specs.RelocatedValues.{distance, target_at, upper_target, number_of_pointer}
 use Rattle.move_law.specs.SimulationRelation.{IsGivenPointer, IsGiven, HasTarget, StandsFor, RelatedData, RelatedPc}
 use Rattle.move_law.specs.FaithfulRewrite.{made_anew, with_immediate}
 use Rattle.move_law.proofs.values.Arithmetic.{Symbols, Label, number_stands, label_stands, only_stands, at_number, combined_stands}

@@ -1,13 +1,13 @@
 -- The outcomes of actions of the two machines, from related states.
 use Rattle.std.proofs.Common.{◌≡◌, ℕ, zero, suc, ◌%◌, ◌<◌, ◌≤◌, List, [], ◌∷◌, length, Option, Some, None, Bool, true, false}
-use Rattle.std.proofs.Common.{refl, sym, ap, ◌∙◌, arith, inl, inr}
+use Rattle.std.proofs.Common.{refl, sym, ap, ◌∙◌, arith}
 use Rattle.std.specs.Prelude.{if◌then◌else◌, ◌==◌, ◌&&◌, ◌||◌, not, nat_le, nat_lt, IsTrue, IfSome, min, map, take, drop}
 use Rattle.std.specs.List.{list_any}
 use Rattle.std.proofs.lemmas.Bool.{and_parts, and_from, leb-true, ltb-true, lt-ltb, le-leb, cases_lt}
 use Rattle.rv_code.specs.declared.action.Extension.{Extension}
 use Rattle.rv_code.specs.isa.Extension.{bytes_of, extended}
 use Rattle.rv_code.specs.machine.Machine.{plus, all_may, memory_bytes, put, little, low_bytes, Space, may_read, may_write, with_break}
-use Rattle.rv_code.specs.machine.Machine.{Event, Call, Read, Write, Exit, Brk, Unknown, call_of, most_moved, bad_file, no_such_call, Ended}
+use Rattle.rv_code.specs.machine.Machine.{Event, Call, Read, Write, Exit, Brk, Unknown, call_of, most_moved, Ended}
 use Rattle.rv_code.specs.machine.Step.{ByteState, ByteOutcome, a0, a1, a2, a7, buffer_size}
 use Rattle.rv_code.specs.machine.Step as byte
 use Rattle.elf_image.specs.declared.segment.TheConstants.{PF_W}

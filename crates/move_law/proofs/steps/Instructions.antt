@@ -1,5 +1,5 @@
 -- The output's instruction for an instruction of the input has an outcome that follows the symbol machine's.
-use Rattle.std.proofs.Common.{◌≡◌, ℕ, zero, suc, ◌+◌, ◌%◌, ◌<◌, Option, Some, None, Bool, true, false, refl, ap, ◌∙◌, subst}
+use Rattle.std.proofs.Common.{◌≡◌, ℕ, zero, suc, ◌%◌, ◌<◌, Option, Some, None, Bool, true, false, refl, ap, ◌∙◌, subst}
 use Rattle.std.proofs.Common.{arith, inl, inr, ℤ}
 use Rattle.std.specs.Prelude.{if◌then◌else◌, not, IsTrue, IsSomeAnd, IfSome, Contains, is_some, option_map}
 use Rattle.rv_code.specs.declared.inst.Inst.{Inst}
@@ -11,14 +11,12 @@ use Rattle.rv_code.specs.declared.action.Action.TheVariants.{SystemCall, Breakpo
 use Rattle.rv_code.specs.declared.action.Action.TheVariants as action
 use Rattle.rv_code.specs.declared.placed.Placed.{Placed}
 use Rattle.rv_code.specs.isa.Action.{action_of}
-use Rattle.rv_code.specs.isa.InstBytes.{Decodes}
 use Rattle.rv_code.specs.layout.Flow.{insts_of, placed_at, action_at, is_call, next_of}
 use Rattle.rv_code.specs.machine.Machine.{plus}
 use Rattle.rv_code.specs.isa.Op.{holds}
 use Rattle.rv_code.specs.machine.Step.{ByteState}
 use Rattle.rv_code.specs.machine.Step as byte
 use Rattle.rv_code.specs.isa.TwosComplement.{unsigned64}
-use Rattle.elf_code.specs.Parts.{halfword_in}
 use Rattle.sym_machine.specs.declared.value.Pointer.{Pointer}
 use Rattle.sym_machine.specs.declared.value.Pointer.TheVariants.{Code, Ret}
 use Rattle.sym_machine.specs.declared.value.CodeSymbol.TheVariants.{Hi}
@@ -26,7 +24,7 @@ use Rattle.sym_machine.specs.Rules.{tested, destination}
 use Rattle.sym_machine.specs.SymStep.{SymState, SymOutcome}
 use Rattle.sym_machine.specs.SymStep as symbol
 use Rattle.move_law.specs.Rewrite.{Rewrite, width_at, out, inst_end, HasAt}
-use Rattle.elf_image.specs.memory.Executables.{Executable, memory_of}
+use Rattle.elf_image.specs.memory.Executables.{Executable}
 use Rattle.move_law.specs.RelocatedValues.{target_at, upper_target, number_of_pointer}
 use Rattle.move_law.specs.SimulationRelation.{IsGivenPointer, IsGiven, HasTarget, RelatedData, RelatedPc}
 use Rattle.move_law.specs.FaithfulRewrite.{next, GetsToNext, made_anew, goes_on, HasInSpan, KeepsCall, KeepsBranch, same, opposite}

@@ -1,15 +1,15 @@
 -- A step of the symbol machine that isn't stuck is matched by at most three steps of the byte machine: one jump may come before and one
 -- after the output's instruction for it.
-use Rattle.std.proofs.Common.{◌≡◌, ℕ, zero, suc, ◌%◌, ◌<◌, ◌≤◌, [], Option, Some, None, Bool, true, false, refl, sym, ap, ◌∙◌}
+use Rattle.std.proofs.Common.{◌≡◌, ℕ, zero, suc, ◌%◌, ◌<◌, ◌≤◌, [], Option, Some, None, Bool, true, false, refl}
 use Rattle.std.proofs.Common.{subst, arith, ℤ}
-use Rattle.std.specs.Prelude.{if◌then◌else◌, ◌==◌, Contains, unwrap_or}
+use Rattle.std.specs.Prelude.{if◌then◌else◌, ◌==◌, Contains}
 use Rattle.std.proofs.lemmas.Grind.{common_steps}
 use Rattle.rv_code.specs.declared.action.Action.{Action}
 use Rattle.rv_code.specs.declared.action.Action.TheVariants.{Jump}
 use Rattle.rv_code.specs.declared.placed.Placed.{Placed}
 use Rattle.rv_code.specs.isa.Action.{action_of}
 use Rattle.rv_code.specs.layout.Flow.{placed_at, action_at, insts_of}
-use Rattle.rv_code.specs.machine.Machine.{plus, Space, events, Going, Ended, Halts, SoFar, more, Run}
+use Rattle.rv_code.specs.machine.Machine.{plus, events, Going, Ended, Halts, SoFar, more, Run}
 use Rattle.rv_code.specs.machine.Step.{ByteState, ByteOutcome, Steps}
 use Rattle.rv_code.specs.machine.Step as byte
 use Rattle.rv_code.specs.isa.TwosComplement.{unsigned64}

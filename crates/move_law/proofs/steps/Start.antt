@@ -19,7 +19,7 @@ use Rattle.elf_code.specs.Cells.{IsField, pointer, slot, difference, IsCell, Con
 use Rattle.elf_code.specs.Functions as functions
 use Rattle.elf_code.specs.Parts.{IsStart}
 use Rattle.rb_bytes.specs.declared.fault.FaultKind.TheVariants.{BadEntry}
-use Rattle.rv_memory.specs.Start.{start, start_memory, start_registers, stack_bytes, stack_pointer, stack_end, stack_size}
+use Rattle.rv_memory.specs.Start.{start, start_memory, start_registers, stack_bytes, stack_pointer}
 use Rattle.elf_image.specs.memory.Break.{table_address, break_start}
 use Rattle.rv_memory.specs.Start.{in_stack, space_of}
 use Rattle.rb_bytes.proofs.Searches.{find-found}

@@ -1,9 +1,8 @@
 -- Values in memory: the bytes that a store writes of a value are represented by the bytes of its number, and the value that a load reads is
 -- represented by the number of its bytes.
-use Rattle.std.proofs.Common.{◌≡◌, ℕ, zero, suc, ◌+◌, ◌-◌, ◌*◌, ◌/◌, ◌%◌, ◌^◌, ◌<◌, ◌≤◌, List, [], ◌∷◌, length, Option, Some}
-use Rattle.std.proofs.Common.{None, Bool, true, false, refl, sym, ap, ◌∙◌, arith, pos, negsuc, inl, inr, ◌⊎◌, div-one}
-use Rattle.std.specs.Prelude.{if◌then◌else◌, ◌==◌, ◌&&◌, nat_le, nat_lt, IfSome, map, option_map}
-use Rattle.std.specs.Option.{option_or}
+use Rattle.std.proofs.Common.{◌≡◌, ℕ, zero, suc, ◌+◌, ◌*◌, ◌/◌, ◌%◌, ◌^◌, ◌<◌, ◌≤◌, List, [], ◌∷◌, length, Some}
+use Rattle.std.proofs.Common.{None, Bool, true, false, refl, sym, ap, ◌∙◌, arith, inl, inr, ◌⊎◌, div-one}
+use Rattle.std.specs.Prelude.{if◌then◌else◌, ◌==◌, ◌&&◌, nat_le, IfSome, map}
 use Rattle.std.proofs.Math.Nat.{div-div-eq-div-mul, one-le-pow}
 use Rattle.std.proofs.lemmas.Bool.{eqb-true, and_parts, leb-true}
 use Rattle.rv_code.specs.declared.action.Extension.{Extension}
@@ -25,9 +24,9 @@ use Rattle.sym_machine.specs.declared.value.Value.{Value}
 use Rattle.sym_machine.specs.declared.value.Value.TheVariants.{Num, Sym, Piece}
 use Rattle.sym_machine.specs.declared.value.MemoryByte.{MemoryByte}
 use Rattle.sym_machine.specs.declared.value.MemoryByte.TheVariants.{Byte, SymbolByte, Hidden}
-use Rattle.sym_machine.specs.Values.{same_pointer, same_comparing, same_symbol, numbers, and_byte, symbol_bytes, are_symbol_bytes}
+use Rattle.sym_machine.specs.Values.{same_pointer, same_comparing, same_symbol, numbers, symbol_bytes, are_symbol_bytes}
 use Rattle.sym_machine.specs.Values.{stored, IsSymbol, IsWidth}
-use Rattle.sym_machine.specs.Rules.{is_unsigned, piece, loaded_symbol, loaded}
+use Rattle.sym_machine.specs.Rules.{piece, loaded_symbol, loaded}
 use Rattle.move_law.specs.Rewrite.{Rewrite}
 use Rattle.move_law.specs.RelocatedValues.{number_of_symbol, extension_of, bytes_from}
 use Rattle.move_law.specs.SimulationRelation.{IsGiven, StandsFor, StandsForByte}
