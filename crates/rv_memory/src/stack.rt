@@ -28,6 +28,21 @@ const PROGRAM: &[u8] = b"program";
 // are repeatable.
 const RANDOM_ADDRESS: u64 = 0x3f_ffff_fff0;
 
+// Types of the auxiliary vector's entries; that of AT_NULL ends it.
+const AT_NULL: u64 = 0;
+
+const AT_PHDR: u64 = 3;
+
+const AT_PHENT: u64 = 4;
+
+const AT_PHNUM: u64 = 5;
+
+const AT_PAGESZ: u64 = 6;
+
+const AT_ENTRY: u64 = 9;
+
+const AT_RANDOM: u64 = 25;
+
 const RANDOM_BYTES: [u8; 16] = [0, 1, 2, 3, 4, 5, 6, 7, 8, 9, 10, 11, 12, 13, 14, 15];
 
 #[tactic(auto, using(crate::proofs::MemoryBytes::number_bytes))]
@@ -98,24 +113,24 @@ fn table_address(elf: &Elf) -> u64
     }
 }
 
-// Appends AT_PHDR, AT_PHENT, AT_PHNUM, AT_PAGESZ, AT_ENTRY, AT_RANDOM and AT_NULL, each with its value.
+// Appends the auxiliary vector: entries of a type and a value each.
 fn put_vector(out: &mut Vec<u8>, table: u64, count: u64, entry: u64) -> Result<(), NoMemory>
     ensures { OnOk result (out.new.items ≡ out.old.items ++ flat_map (low_bytes 8) (vector table count entry)) }
 {
     let entries = [
-        3,
+        AT_PHDR,
         table,
-        4,
+        AT_PHENT,
         PHDR_SIZE as u64,
-        5,
+        AT_PHNUM,
         count,
-        6,
+        AT_PAGESZ,
         PAGE_SIZE,
-        9,
+        AT_ENTRY,
         entry,
-        25,
+        AT_RANDOM,
         RANDOM_ADDRESS,
-        0,
+        AT_NULL,
         0,
     ];
     put_numbers(out, &entries)
