@@ -1,6 +1,7 @@
 -- The first steps from a state have only one result, which a run returns.
 use Rattle.std.proofs.Common.{◌≡◌, ◌∙◌, ◌<◌, ◌≤◌, ◌⊎◌, ℕ, suc, List, refl, sym, ap, subst, inl, inr, ⊎_elim, arith}
 use Rattle.std.specs.Io.KnownBytes.{append_known}
+use Rattle.std.proofs.lemmas.Grind.{common_steps}
 use Rattle.rv_code.specs.machine.DeterminedRuns.{IsDetermined}
 use Rattle.rv_code.specs.machine.Machine.{Event, output, Outcome, Ended, Halts, SoFar, Run, HaltsAfter}
 use Rattle.rv_code.proofs.machine.OnlyRuns.{Stop, fewer, same_so_far, stop_is_last, same_stop}
@@ -94,8 +95,7 @@ module _ {M S C : Type 0} (state_of : M → List ℕ → S) (step : S → Outcom
 
   given : (end : Answer C) → MachineRunAnswers state_of step end limit n old new input before after →
       IsInterrupted end ⊎ Given end
-  given answer.Going a =
-      inr (record { trace = a.1.trace; runs_to = (a.0, state_of new a.1.rest, a.1.so_far); taken_is = a.1.taken_is })
+  given answer.Going a = grind (arith, common_steps)
   given (answer.Ended status) a = inr (record { trace = a.1.trace; runs_to = (a.0, a.1.run); taken_is = a.1.taken_is })
   given (answer.Halted pc cause) a = inr (record { trace = a.1.trace; runs_to = (a.0, a.1.halts); taken_is = a.1.taken_is })
   given answer.ReadFault a = inl tt

@@ -1,8 +1,9 @@
 -- Results of steps that neither read input nor write output.
-use Rattle.std.proofs.Common.{◌≡◌, ℕ, List, [], ◌++◌, Option, Some, None, Bool, true, false, refl, sym, subst}
-use Rattle.std.specs.Prelude.{◌<◌, if◌then◌else◌, ◌==◌}
+use Rattle.std.proofs.Common.{◌≡◌, ℕ, List, [], ◌++◌, Option, Some, None, Bool, refl, sym, arith}
+use Rattle.std.specs.Prelude.{◌<◌}
 use Rattle.std.proofs.lemmas.List.Elements.{All-nil}
 use Rattle.std.specs.Io.KnownBytes.{append_known}
+use Rattle.std.proofs.lemmas.Grind.{common_steps}
 use Rattle.rv_code.specs.machine.Machine.{State, Event, events, output, Outcome, Going, Ended, Halts}
 use Rattle.run_core.specs.Answers.{Answer}
 use Rattle.run_core.specs.Answers as answer
@@ -15,11 +16,7 @@ use Rattle.run_core.proofs.Told.{append_known-nil, prepend_known-nil}
 quiet_output : (e : Option Event) → MovesNothing e → (known : Option (List ℕ)) → known ≡ append_known known (output (events e))
 unfolding output
 quiet_output None quiet known = append_known-nil known
-quiet_output (Some e) quiet known = by_number (e.number == 64)
-  where
-    by_number : (b : Bool) → known ≡ append_known known ((if b then e.moved else []) ++ [])
-    by_number true = rw quiet (append_known-nil known)
-    by_number false = append_known-nil known
+quiet_output (Some e) quiet known = grind (arith, common_steps, append_known-nil)
 
 module _ {M V X C : Type 0} (state_of : M → List ℕ → State V X) where
   module _ (step : State V X → Outcome (State V X) C → Type 0) (old new : M) where
@@ -30,19 +27,14 @@ module _ {M V X C : Type 0} (state_of : M → List ℕ → State V X) where
 
     goes : (s : State V X) (o : Outcome (State V X) C) (input : List ℕ) → step s o →
         Becomes state_of o answer.Going old new input → GoesQuietly s input
-    goes s (Going t e) input steps becomes = record {
-      event = e;
-      quiet = becomes.0;
-      comes_to = subst (λ x. step s (Going x e)) (same_state t (state_of new input) becomes.1) steps;
-    }
+    goes s (Going t e) input steps becomes = grind (arith, common_steps, same_state)
     goes s (Ended n) input steps becomes = absurd becomes
     goes s (Halts pc cause) input steps becomes = absurd becomes
 
     ends : (s : State V X) (o : Outcome (State V X) C) (status : ℕ) (input : List ℕ) → step s o →
         Becomes state_of o (answer.Ended status) old new input → step s (Ended status) × (state_of new input ≡ state_of old input)
     ends s (Going t e) status input steps becomes = absurd becomes
-    ends s (Ended n) status input steps becomes =
-        (subst (λ x. step s (Ended x)) becomes.0 steps, sym (same_state (state_of old input) (state_of new input) becomes.1))
+    ends s (Ended n) status input steps becomes = grind (arith, common_steps, same_state)
     ends s (Halts pc cause) status input steps becomes = absurd becomes
 
     halts : (s : State V X) (o : Outcome (State V X) C) (pc : ℕ) (cause : C) (input : List ℕ) → step s o →
@@ -50,10 +42,7 @@ module _ {M V X C : Type 0} (state_of : M → List ℕ → State V X) where
         step s (Halts pc cause) × (state_of new input ≡ state_of old input)
     halts s (Going t e) pc cause input steps becomes = absurd becomes
     halts s (Ended n) pc cause input steps becomes = absurd becomes
-    halts s (Halts at why) pc cause input steps becomes = (
-      subst (λ x. step s (Halts x cause)) becomes.0 (subst (λ x. step s (Halts at x)) becomes.1 steps),
-      sym (same_state (state_of old input) (state_of new input) becomes.2),
-    )
+    halts s (Halts at why) pc cause input steps becomes = grind (arith, common_steps, same_state)
 
     ran_out : (o : Outcome (State V X) C) (input : List ℕ) → Becomes state_of o answer.Memory old new input →
         state_of new input ≡ state_of old input

@@ -1,22 +1,15 @@
 -- A read that moved some bytes into a buffer, whatever comes after them.
-use Rattle.std.proofs.Common.{◌≡◌, ◌<◌, ◌≤◌, refl, ℕ, List, [], ◌∷◌, ◌++◌, length, take, drop, Bool, true, false, arith, nat_lt}
+use Rattle.std.proofs.Common.{◌≡◌, ◌<◌, ◌≤◌, refl, ℕ, List, [], ◌∷◌, ◌++◌, length, take, drop, Bool, true, arith}
 use Rattle.std.proofs.Common.{append-nil, take_all}
 use Rattle.std.proofs.Math.Seq.{take-append_seam, drop-append_seam}
 use Rattle.std.proofs.lemmas.Bool.{ltb-true, ltb-false}
+use Rattle.std.proofs.lemmas.Grind.{common_steps}
 use Rattle.run_core.specs.Inputs.{MayCome}
 
 -- A read that gives fewer bytes than asked for gives all there are.
 pub takes_all : (count : ℕ) (moved rest : List ℕ) (ends : Bool) → length moved ≤ count → (length moved < count → ends ≡ true) →
     MayCome ends rest → take count (moved ++ rest) ≡ moved
-takes_all count moved rest ends few end may = by_test (nat_lt (length moved) count) refl
-  where
-    by_test : (b : Bool) → nat_lt (length moved) count ≡ b → take count (moved ++ rest) ≡ moved
-    by_test true test =
-        let none : rest ≡ [] = may (end (ltb-true _ _ test)) in
-        rw (none, append-nil moved) (take_all count moved few)
-    by_test false test =
-        let full : count ≡ length moved = omega (arith, few, ltb-false _ _ test) in
-        rw full (take-append_seam moved rest)
+takes_all count moved rest ends few end may = grind (arith, common_steps, ltb-true, append-nil, take_all, ltb-false, take-append_seam)
 
 pub drops_moved : (moved rest : List ℕ) → drop (length moved) (moved ++ rest) ≡ rest
 drops_moved moved rest = drop-append_seam moved rest

@@ -1,8 +1,9 @@
 -- Known bytes of transparent sources and sinks.
-use Rattle.std.proofs.Common.{◌≡◌, ◌∙◌, ◌<◌, refl, sym, ap, ℕ, List, [], ◌++◌, Option, Some, None, Bool, append-nil, append_assoc}
+use Rattle.std.proofs.Common.{◌≡◌, ◌∙◌, ◌<◌, refl, sym, ap, ℕ, List, [], ◌++◌, Option, Some, None, Bool, append-nil, append_assoc, arith}
 use Rattle.std.specs.Prelude.{All}
 use Rattle.std.proofs.lemmas.List.Elements.{All-append, All-nil}
 use Rattle.std.specs.Io.KnownBytes.{append_known, prepend_known, IsAtEnd}
+use Rattle.std.proofs.lemmas.Grind.{common_steps}
 use Rattle.run_core.specs.Inputs.{as_told, AreSomeBytes, MayCome, IsRightly}
 
 -- Possible bytes of a source, which are its bytes if it is transparent.
@@ -50,8 +51,7 @@ none_told (Some bytes) = λ untold. absurd (cc)
 pub told_before : (before after : Option (List ℕ)) (read rest : List ℕ) → before ≡ prepend_known read after →
     after ≡ as_told after rest → before ≡ as_told before (read ++ rest)
 told_before before None read rest is same = is ∙ ap (λ known. as_told known (read ++ rest)) (sym is)
-told_before before (Some bytes) read rest is same =
-    is ∙ ap (prepend_known read) same ∙ ap (λ known. as_told known (read ++ rest)) (sym is)
+told_before before (Some bytes) read rest is same = grind (arith, common_steps)
 
 -- A source was transparent before a read if it is after it.
 pub as_told-prepend : (before after : Option (List ℕ)) (read bytes : List ℕ) → before ≡ prepend_known read after →

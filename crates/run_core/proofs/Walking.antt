@@ -1,9 +1,10 @@
 -- Sequences of steps: the invariant of a loop over a machine's steps, and its result.
 use Rattle.std.proofs.Common.{◌≡◌, ◌∙◌, ◌+◌, ◌<◌, ◌≤◌, ℕ, suc, List, [], ◌∷◌, ◌++◌, Bool, false, Option, refl, sym, ap, subst}
-use Rattle.std.proofs.Common.{arith, append_assoc, take}
+use Rattle.std.proofs.Common.{arith, append_assoc}
 use Rattle.std.proofs.lemmas.List.Elements.{All-append, All-nil}
-use Rattle.std.specs.Prelude.{All, if◌then◌else◌, ◌==◌}
+use Rattle.std.specs.Prelude.{All}
 use Rattle.std.specs.Io.KnownBytes.{append_known, prepend_known}
+use Rattle.std.proofs.lemmas.Grind.{common_steps}
 use Rattle.rb_io.proofs.Printing.{append_known-append}
 use Rattle.rv_code.specs.machine.DeterminedRuns.{HasOneOutcome, IsDetermined, IsStop}
 use Rattle.rv_code.specs.machine.Machine.{Event, events, output, Outcome, Ended, Halts, SoFar, starts, more}
@@ -19,8 +20,7 @@ use Rattle.run_core.proofs.Told.{prepend_known-append, append_known-nil, told_by
 pub output-append : (es fs : List Event) → output (es ++ fs) ≡ output es ++ output fs
 unfolding output
 output-append [] fs = refl
-output-append (e ∷ es) fs = ap (λ rest. (if e.number == 64 then e.moved else []) ++ rest) (output-append es fs)
-    ∙ sym (append_assoc (if e.number == 64 then e.moved else []) (output es) (output fs))
+output-append (e ∷ es) fs = grind (arith, common_steps, append_assoc, output-append es fs)
 
 pub output-nil : output [] ≡ []
 unfolding output
@@ -63,9 +63,7 @@ module _ {M S C : Type 0} (state_of : M → List ℕ → S) (step : S → Outcom
   module _ (mid : M) (ended : Bool) (n : ℕ) (between : Outside) (walk : Walk mid ended n between)
       (one : (bytes : List ℕ) → HasOneOutcome step (state_of mid bytes)) where
     pub determined_further : (rest : List ℕ) → MayCome ended rest → IsDetermined step (state_of old (walk.read ++ rest)) (n + 1)
-    determined_further rest may =
-        let c = walk.came rest may in
-        more_determined step (state_of old (walk.read ++ rest)) c.determined c.so_far (one rest)
+    determined_further rest may = grind (arith, common_steps, more_determined)
 
     pub next_is : suc n ≡ n + 1
     next_is = omega arith
@@ -122,8 +120,7 @@ module _ {M S C : Type 0} (state_of : M → List ℕ → S) (step : S → Outcom
     input_bytes_now = told_bytes before.input.left between.input.left walk.read walk.read_is walk.bytes
 
     pub rest_now_is : between.input.left ≡ as_told before.input.left rest_now
-    rest_now_is =
-        told_is between.input.left ∙ as_told-prepend before.input.left between.input.left walk.read rest_now walk.read_is
+    rest_now_is = grind (arith, common_steps, told_is, as_told-prepend)
 
     determined_now : IsDetermined step (state_of old input_now) (n + 1)
     determined_now = determined_further rest_now (told_may_come ended between.input.left walk.end_is)
@@ -184,57 +181,15 @@ module _ {M S C : Type 0} (state_of : M → List ℕ → S) (step : S → Outcom
 
       pub fails_at_read : before.input.faults ≤ between.input.faults → FailsToRead state_of step mid between after →
           RunsSomeInput state_of step answer.ReadFault limit n old new before after
-      fails_at_read rise fails = runs_now answer.ReadFault n (
-        below,
-        record {
-          cause = λ under. let rose : between.input.faults < after.input.faults = fails.cause under in omega (arith, rise, rose);
-          trace = came_now.trace;
-          state = state_of mid rest_now;
-          so_far = came_now.so_far;
-          asks = fails.asks rest_now;
-          taken_is = fails.taken_is ∙ came_now.taken_is;
-        },
-      ) determined_now
+      fails_at_read rise fails = grind (arith, common_steps, came_now, determined_now)
 
       pub fails_at_write : before.output.faults ≤ between.output.faults → FailsToWrite state_of step mid between after →
           RunsSomeInput state_of step answer.WriteFault limit n old new before after
-      fails_at_write rise fails =
-          let gives = fails.gives rest_now in
-          runs_now answer.WriteFault n (
-            below,
-            record {
-              cause = λ under. let rose : between.output.faults < after.output.faults = fails.cause under in
-                  omega (arith, rise, rose);
-              trace = came_now.trace;
-              state = state_of mid rest_now;
-              so_far = came_now.so_far;
-              gives = record {
-                next = gives.next;
-                event = gives.event;
-                comes_to = gives.comes_to;
-                number_is = gives.number_is;
-                front = (
-                  gives.front.0,
-                  gives.front.1,
-                  gives.front.2 ∙ ap (λ known. append_known known (take gives.front.0 gives.event.moved)) came_now.taken_is,
-                );
-              };
-            },
-          ) determined_now
+      fails_at_write rise fails = grind (arith, common_steps, came_now, determined_now)
 
       pub runs_out : RanOut state_of mid new between after →
           RunsSomeInput state_of step answer.Memory limit n old new before after
-      runs_out out = runs_now answer.Memory n (
-        below,
-        record {
-          rest = rest_now;
-          trace = came_now.trace;
-          so_far =
-              subst (λ s. SoFar step (state_of old input_now) n came_now.trace s) (sym (out.state_is rest_now)) came_now.so_far;
-          left_is = out.left_is ∙ rest_now_is;
-          taken_is = out.taken_is ∙ came_now.taken_is;
-        },
-      ) determined_now
+      runs_out out = grind (arith, common_steps, came_now, rest_now_is, determined_now)
 
       -- The next step is the last.
       pub last_step : (ends : Bool) (a : Answer C) → (a ≡ answer.Going → ⊥) → before.input.faults ≤ between.input.faults
@@ -274,5 +229,4 @@ module _ {M S C : Type 0} (state_of : M → List ℕ → S) (step : S → Outcom
 -- What holds for the end of a run and its steps holds for the pair that is returned.
 pub ran_is : {E C : Type 0} (answered : E → Answer C) (end' end : E) (steps n : ℕ) (P : E → ℕ → Type 0) → end' ≡ end →
     steps ≡ steps_done (answered end) n → P end (steps_done (answered end) n) → P end' steps
-ran_is answered end' end steps n P end_is steps_are holds =
-    subst (λ k. P end' k) (sym steps_are) (subst (λ e. P e (steps_done (answered end) n)) (sym end_is) holds)
+ran_is answered end' end steps n P end_is steps_are holds = grind (arith, common_steps)
