@@ -3,6 +3,7 @@ use Rattle.std.proofs.Common.{◌≡◌, ◌∙◌, sym, ap, ℕ, ◌<◌, List,
 use Rattle.std.specs.Prelude.{Contains, Any}
 use Rattle.std.proofs.lemmas.List.{get_or-map, length-map}
 use Rattle.std.proofs.lemmas.List.Elements.{Contains-get_or}
+use Rattle.std.proofs.lemmas.Grind.{common_steps}
 use Rattle.elf_image.specs.declared.elf.Elf.{Elf}
 use Rattle.elf_image.specs.declared.section.Section.{Section}
 use Rattle.elf_image.specs.declared.symbol.Symbol.{Symbol}
@@ -56,6 +57,4 @@ any_alike f P carry xs ys e (k, x, within, is, p) =
 
 -- The memory is the same.
 pub memory : (e e' : Elf) → Alike e e' → byte_at e ≡ byte_at e'
-memory e e' a =
-    ap {B = ℕ → Option ℕ} (λ file. image_byte file e.segments.items) a.file
-    ∙ ap {B = ℕ → Option ℕ} (λ segments. image_byte e'.file.now segments) a.segments
+memory e e' a = grind (arith, common_steps)

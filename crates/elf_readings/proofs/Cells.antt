@@ -1,6 +1,7 @@
 -- Code cells don't depend on the reading.
-use Rattle.std.proofs.Common.{◌≡◌, ◌∙◌, sym, subst, refl, ℕ, ◌+◌, ◌*◌, ◌≤◌, ◌<◌, ◌⊎◌, inl, inr, Bool, List, IsTrue, length}
+use Rattle.std.proofs.Common.{◌≡◌, ◌∙◌, sym, subst, refl, ℕ, ◌+◌, ◌*◌, ◌≤◌, ◌<◌, ◌⊎◌, inl, inr, Bool, List, IsTrue, length, arith}
 use Rattle.std.specs.Prelude.{ℤ, IsSome, IfSome}
+use Rattle.std.proofs.lemmas.Grind.{common_steps}
 use Rattle.rv_code.specs.declared.cell.CodeCell.{CodeCell}
 use Rattle.elf_image.specs.declared.elf.Elf.{Elf}
 use Rattle.elf_image.specs.declared.section.Section.{Section}
@@ -34,8 +35,7 @@ difference_of e e' a r s t w to from (of_labels only minus minus_only to_is from
     of_labels (only_of e e' a (is_plus r.place w) (λ x y. refl) r s t only) (with_section minus q)
     (only_of e e' a (is_minus r.place w) (λ x y. refl) minus q u minus_only)
     (to_is ∙ label_alike e e' a r) (from_is ∙ label_alike e e' a minus)
-difference_of e e' a r s t w to from (of_place counted kind width to_is from_is) =
-    of_place t.there kind width (to_is ∙ label_alike e e' a r) from_is
+difference_of e e' a r s t w to from (of_place counted kind width to_is from_is) = grind (arith, common_steps, label_alike)
 
 pub code_label_of : (e e' : Elf) → Alike e e' → (z : ℤ) → IsCodeLabel e z → IsCodeLabel e' z
 code_label_of e e' a z (at, is, start) = (at, is, start_of e e' a at start)

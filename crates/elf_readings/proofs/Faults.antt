@@ -1,8 +1,9 @@
 -- Faults of a file's code don't depend on the reading.
-use Rattle.std.proofs.Common.{◌≡◌, ◌∙◌, sym, subst, ℕ, inl, inr, List, Option, Some, None, IsTrue, map}
+use Rattle.std.proofs.Common.{◌≡◌, ◌∙◌, sym, subst, ℕ, inl, inr, List, Option, Some, None, IsTrue, map, arith}
 use Rattle.std.specs.Prelude.{IsSomeAnd, nat_eq, codes, ◌%◌, ◌≢◌, option_map}
 use Rattle.std.specs.List.{slice_get, starts_with}
 use Rattle.std.proofs.lemmas.Option.{slice_get-map}
+use Rattle.std.proofs.lemmas.Grind.{common_steps}
 use Rattle.rb_bytes.specs.declared.fault.FaultKind.{FaultKind}
 use Rattle.rb_bytes.specs.declared.fault.FaultKind.TheVariants as kind
 use Rattle.rv_code.specs.declared.inst.Inst.TheVariants.{Auipc}
@@ -66,10 +67,7 @@ moved_of e e' a index is =
 
 bad_entry_of : (e e' : Elf) → Alike e e' → (tabled : List (ℕ × ℕ)) (place : ℕ) → IsBadEntry e tabled place →
     IsBadEntry e' tabled place
-bad_entry_of e e' a tabled place b = record {
-  is_entry = b.is_entry ∙ a.entry;
-  no_code = λ is. b.no_code (code_address_of e' e (back e e' a) tabled place is);
-}
+bad_entry_of e e' a tabled place b = grind (arith, common_steps, code_address_of, back)
 
 bad_instruction_of : (e e' : Elf) → Alike e e' → (tabled : List (ℕ × ℕ)) (place : ℕ) → IsBadInstruction e tabled place →
     IsBadInstruction e' tabled place
@@ -95,14 +93,7 @@ bare_auipc_of e e' a tabled place b = record {
 
 inside_of : (e e' : Elf) → Alike e e' → (tabled : List (ℕ × ℕ)) (at : ℕ) → IsInsideInstruction e tabled at →
     IsInsideInstruction e' tabled at
-inside_of e e' a tabled at i = record {
-  start = i.start;
-  end = i.end;
-  function = function_part_of e e' a tabled i.start i.end i.function;
-  above = i.above;
-  below = i.below;
-  no_code = λ is. i.no_code (code_address_of e' e (back e e' a) tabled at is);
-}
+inside_of e e' a tabled at i = grind (arith, common_steps, function_part_of, code_address_of, back)
 
 bad_target_of : (e e' : Elf) → Alike e e' → (tabled : List (ℕ × ℕ)) (place : ℕ) → IsBadTarget e tabled place →
     IsBadTarget e' tabled place

@@ -1,5 +1,6 @@
 -- Functions don't depend on the reading.
-use Rattle.std.proofs.Common.{◌∙◌, sym, subst, ℕ, ◌+◌, ◌≤◌, inl, inr, List, [], ◌∷◌}
+use Rattle.std.proofs.Common.{◌∙◌, sym, subst, ℕ, ◌+◌, ◌≤◌, inl, inr, List, [], ◌∷◌, arith}
+use Rattle.std.proofs.lemmas.Grind.{common_steps}
 use Rattle.rv_code.specs.declared.placed.Func.{Func}
 use Rattle.rv_code.specs.declared.placed.Placed.{Placed}
 use Rattle.elf_image.specs.declared.elf.Elf.{Elf}
@@ -41,12 +42,7 @@ function_part_of e e' a tabled start end (IsFunctionPart.fallen_into s n before 
 
 pub code_address_of : (e e' : Elf) → Alike e e' → (tabled : List (ℕ × ℕ)) (at : ℕ) → IsCodeAddress e tabled at →
     IsCodeAddress e' tabled at
-code_address_of e e' a tabled at c = record {
-  start = c.start;
-  end = c.end;
-  function = function_part_of e e' a tabled c.start c.end c.function;
-  starts = starts_of e e' a c.start c.end at c.starts;
-}
+code_address_of e e' a tabled at c = grind (arith, common_steps, function_part_of, starts_of)
 
 insts_of : (e e' : Elf) → Alike e e' → (at : ℕ) (ps : List Placed) (end : ℕ) → AreInsts e at ps end → AreInsts e' at ps end
 insts_of e e' a at [] end is = is

@@ -1,7 +1,8 @@
 -- Misfits of relocations don't depend on the reading.
-use Rattle.std.proofs.Common.{◌≡◌, ◌∙◌, sym, ap, subst, refl, ℕ, ◌≤◌, inl, inr, List, Option, IsTrue, IsFalse, length}
+use Rattle.std.proofs.Common.{◌≡◌, ◌∙◌, sym, ap, subst, refl, ℕ, ◌≤◌, inl, inr, List, Option, IsTrue, IsFalse, length, arith}
 use Rattle.std.specs.Prelude.{ℤ, pos, IsSomeAnd}
 use Rattle.std.proofs.lemmas.List.{length-map}
+use Rattle.std.proofs.lemmas.Grind.{common_steps}
 use Rattle.elf_image.specs.declared.elf.Elf.{Elf}
 use Rattle.elf_image.specs.declared.section.Section.{Section}
 use Rattle.elf_code.specs.LoadedNumbers.{loaded_number}
@@ -137,8 +138,7 @@ bad_difference_of e e' a r s t (IsBadDifference.unpaired w kind code out) =
 
 bad_label_of : (e e' : Elf) → Alike e e' → (tabled : List (ℕ × ℕ)) (place : ℕ) → HasBadLabel e tabled place →
     HasBadLabel e' tabled place
-bad_label_of e e' a tabled place b =
-    record { width = b.width; to = b.to; from = b.from; counted = counts_of e e' a tabled _ _ b.counted; unfit = b.unfit }
+bad_label_of e e' a tabled place b = grind (arith, common_steps, counts_of)
 
 misfit_of : (e e' : Elf) → Alike e e' → (r : Relocation) (s : Section) → Twin e e' r s → IsMisfit e r →
     IsMisfit e' (with_section r s)

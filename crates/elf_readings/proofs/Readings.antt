@@ -2,6 +2,7 @@
 use Rattle.std.proofs.Common.{◌≡◌, ◌∙◌, sym, ap, refl, ℕ, suc, List, [], ◌∷◌, Option, Some, None, length, map, arith}
 use Rattle.std.specs.List.{slice_get}
 use Rattle.std.proofs.lemmas.List.{length-map, map-id}
+use Rattle.std.proofs.lemmas.Grind.{common_steps}
 use Rattle.rb_bytes.specs.declared.fault.Fault.{Fault}
 use Rattle.rv_code.specs.declared.cell.CodeCell.{CodeCell}
 use Rattle.rv_code.specs.declared.placed.Func.{Func}
@@ -36,29 +37,11 @@ map_alike f (x ∷ xs) (y ∷ ys) size same =
     ∙ ap (λ rest. f y ∷ rest) (map_alike f xs ys (omega (arith, size)) (λ i p q is is'. same (suc i) p q is is'))
 
 same_section : (file : List ℕ) (i : ℕ) (s t : Section) → IsSectionAt file i s → IsSectionAt file i t → bare s ≡ bare t
-same_section file i s t a b = λ j. record {
-  name = record { now = (a.name ∙ sym b.name) j; ref_ptr = (0, 0) };
-  kind = (a.kind ∙ sym b.kind) j;
-  flags = (a.flags ∙ sym b.flags) j;
-  addr = (a.addr ∙ sym b.addr) j;
-  offset = (a.offset ∙ sym b.offset) j;
-  size = (a.size ∙ sym b.size) j;
-  link = (a.link ∙ sym b.link) j;
-  info = (a.info ∙ sym b.info) j;
-  align = (a.align ∙ sym b.align) j;
-  entsize = (a.entsize ∙ sym b.entsize) j;
-}
+same_section file i s t a b = grind (arith, common_steps)
 
 same_symbol : (file : List ℕ) (table : SectionHeader) (place : ℕ) (s t : Symbol) → IsSymbolAt file table place s →
     IsSymbolAt file table place t → bare_symbol s ≡ bare_symbol t
-same_symbol file table place s t a b = λ j. record {
-  name = record { now = (a.name ∙ sym b.name) j; ref_ptr = (0, 0) };
-  value = (a.value ∙ sym b.value) j;
-  size = (a.size ∙ sym b.size) j;
-  info = (a.info ∙ sym b.info) j;
-  other = (a.other ∙ sym b.other) j;
-  section = (a.shndx ∙ sym b.shndx) j;
-}
+same_symbol file table place s t a b = grind (arith, common_steps)
 
 same_symbols : (file : List ℕ) (table : Option SectionHeader) (xs ys : List Symbol) → AreSymbolsOf file table xs →
     AreSymbolsOf file table ys → map bare_symbol xs ≡ map bare_symbol ys

@@ -1,11 +1,12 @@
 -- The relocations of two readings. Each has a twin, which only differs in the memory address of its section's name.
-use Rattle.std.proofs.Common.{◌≡◌, ◌∙◌, sym, ap, subst, refl, ℕ, zero, suc, ◌+◌, Bool, true, false, cond, List, [], ◌∷◌, ◌++◌}
+use Rattle.std.proofs.Common.{◌≡◌, ◌∙◌, sym, ap, subst, refl, ℕ, zero, suc, ◌+◌, Bool, true, false, cond, List, [], ◌∷◌, ◌++◌, arith}
 use Rattle.std.proofs.Common.{Option, Some, None, map}
 use Rattle.std.specs.Prelude.{Contains, option_map, count_by, if◌then◌else◌, ◌==◌, ◌&&◌, not, codes, flat_map, ◌/◌}
 use Rattle.std.specs.Option.{option_map_or}
 use Rattle.std.specs.List.{slice_get, fold}
 use Rattle.std.proofs.lemmas.List.{map-append}
 use Rattle.std.proofs.lemmas.Option.{slice_get-map}
+use Rattle.std.proofs.lemmas.Grind.{common_steps}
 use Rattle.elf_image.specs.declared.elf.Elf.{Elf}
 use Rattle.elf_image.specs.declared.section.Section.{Section}
 use Rattle.elf_image.specs.declared.symbol.Symbol.{Symbol}
@@ -24,8 +25,7 @@ bare_entries : (file : List ℕ) (s : Section) (offset n : ℕ) →
     map bare_relocation (entries_from file s offset n) ≡ entries_from file (bare s) offset n
 unfolding entries_from
 bare_entries file s offset zero = refl
-bare_entries file s offset (suc n) =
-    ap (λ rest. relocation_at file (bare s) offset ∷ rest) (bare_entries file s (offset + RELA_SIZE) n)
+bare_entries file s offset (suc n) = grind (arith, common_steps, bare, bare_entries file s (offset + RELA_SIZE) n)
 
 -- The entries for a section, from the bytes of the file.
 abbrev for_section : List ℕ → Section → Section → List Relocation
@@ -33,12 +33,7 @@ for_section file table s =
     if is_loaded s && not (is_named s (codes ".eh_frame")) then entries_from file s table.offset (table.size / RELA_SIZE) else []
 
 bare_for : (file : List ℕ) (table s : Section) → map bare_relocation (for_section file table s) ≡ for_section file table (bare s)
-bare_for file table s = by (is_loaded s && not (is_named s (codes ".eh_frame")))
-  where
-    by : (t : Bool) → map bare_relocation (if t then entries_from file s table.offset (table.size / RELA_SIZE) else [])
-        ≡ (if t then entries_from file (bare s) table.offset (table.size / RELA_SIZE) else [])
-    by true = bare_entries file s table.offset (table.size / RELA_SIZE)
-    by false = refl
+bare_for file table s = grind (arith, common_steps, bare, bare_entries)
 
 -- The entries of a table, from its section header.
 abbrev of_table : List ℕ → List Section → Section → List Relocation
@@ -47,26 +42,12 @@ of_table file sections table =
 
 bare_table : (file : List ℕ) (sections : List Section) (table : Section) →
     map bare_relocation (of_table file sections table) ≡ of_table file (map bare sections) table
-bare_table file sections table = by (table.kind == SHT_RELA)
-  where
-    some : (o : Option Section) → map bare_relocation (option_map_or (for_section file table) o [])
-        ≡ option_map_or (for_section file table) (option_map bare o) []
-    some None = refl
-    some (Some s) = bare_for file table s
-
-    by : (t : Bool) → map bare_relocation (if t then option_map_or (for_section file table) (slice_get sections table.info) []
-        else []) ≡ (if t then option_map_or (for_section file table) (slice_get (map bare sections) table.info) [] else [])
-    by true = some (slice_get sections table.info)
-        ∙ ap (λ o. option_map_or (for_section file table) o []) (sym (slice_get-map bare sections table.info))
-    by false = refl
+bare_table file sections table = grind (arith, common_steps, bare, bare_for, slice_get-map)
 
 bare_flat : (file : List ℕ) (sections tables : List Section) → map bare_relocation (flat_map (of_table file sections) tables)
     ≡ flat_map (of_table file (map bare sections)) (map bare tables)
 bare_flat file sections [] = refl
-bare_flat file sections (t ∷ ts) =
-    map-append bare_relocation (of_table file sections t) (flat_map (of_table file sections) ts)
-    ∙ ap (λ first. first ++ map bare_relocation (flat_map (of_table file sections) ts)) (bare_table file sections t)
-    ∙ ap (λ rest. of_table file (map bare sections) t ++ rest) (bare_flat file sections ts)
+bare_flat file sections (t ∷ ts) = grind (arith, common_steps, map-append, bare_table, bare, bare_flat file sections ts)
 
 pub relocations_alike : (e e' : Elf) → Alike e e' → map bare_relocation (relocations e) ≡ map bare_relocation (relocations e')
 relocations_alike e e' a =
@@ -106,8 +87,7 @@ counted test n x = n + cond (test x) 1 0
 fold_map : {X : Type 0} (test : X → Bool) (f : X → X) → ((x : X) → test (f x) ≡ test x) → (n : ℕ) (xs : List X) →
     fold (counted test) n (map f xs) ≡ fold (counted test) n xs
 fold_map test f same n [] = refl
-fold_map test f same n (x ∷ xs) =
-    ap (λ (b : Bool). fold (counted test) (n + cond b 1 0) (map f xs)) (same x) ∙ fold_map test f same (n + cond (test x) 1 0) xs
+fold_map test f same n (x ∷ xs) = grind (arith, common_steps, fold_map test f same (n + cond (test x) 1 0) xs)
 
 count_map : {X : Type 0} (test : X → Bool) (f : X → X) → ((x : X) → test (f x) ≡ test x) → (xs : List X) →
     count_by test (map f xs) ≡ count_by test xs

@@ -1,7 +1,8 @@
 -- Fields of relocations, and roles, don't depend on the reading.
-use Rattle.std.proofs.Common.{◌≡◌, ◌∙◌, sym, ap, subst, refl, ℕ, zero, suc, ◌+◌, ◌-◌, ◌≤◌, inl, inr, List, Option, Some, None}
+use Rattle.std.proofs.Common.{◌≡◌, ◌∙◌, sym, ap, subst, refl, ℕ, zero, suc, ◌+◌, ◌-◌, ◌≤◌, inl, inr, List, Option, Some, None, arith}
 use Rattle.std.specs.Prelude.{Contains, ℤ, pos, ◌+ℤ◌, option_map, length, IsSomeAnd, ◌%◌, ◌^◌, ◌-ℤ◌}
 use Rattle.std.specs.Int.{int_rem_euclid}
+use Rattle.std.proofs.lemmas.Grind.{common_steps}
 use Rattle.rv_code.specs.declared.inst.Inst.{Inst}
 use Rattle.rv_code.specs.declared.placed.Role.{Role}
 use Rattle.elf_image.specs.declared.elf.Elf.{Elf}
@@ -29,15 +30,11 @@ number_alike e e' a at n = ap (λ (m : ℕ → Option ℕ). number_in m at n) (m
 leb_alike : (e e' : Elf) → Alike e e' → (at n : ℕ) → leb_at e at n ≡ leb_at e' at n
 unfolding leb_at
 leb_alike e e' a at zero = refl
-leb_alike e e' a at (suc n) =
-    ap (λ (b : Option ℕ). leb_from b (leb_at e (at + 1) n)) (byte_of e e' a at)
-    ∙ ap (λ (rest : Option (List ℕ)). leb_from (byte_at e' at) rest) (leb_alike e e' a (at + 1) n)
+leb_alike e e' a at (suc n) = grind (arith, common_steps, byte_of, leb_alike e e' a (at + 1) n)
 
 leb_field_alike : (e e' : Elf) → Alike e e' → (r : Relocation) (s : Section) → Twin e e' r s →
     leb_field e r ≡ leb_field e' (with_section r s)
-leb_field_alike e e' a r s t =
-    leb_alike e e' a r.place (r.section.addr + r.section.size - r.place)
-    ∙ ap (λ (q : Section). leb_at e' r.place (q.addr + q.size - r.place)) t.same
+leb_field_alike e e' a r s t = grind (arith, common_steps, leb_alike)
 
 width_alike : (e e' : Elf) → Alike e e' → (r : Relocation) (s : Section) → Twin e e' r s → (w : Width) →
     width_size e r w ≡ width_size e' (with_section r s) w
@@ -66,9 +63,7 @@ field_of e e' a r s t (inr lies) =
 
 pub holds_of : (e e' : Elf) → Alike e e' → (r : Relocation) (s : Section) → Twin e e' r s → (w : Width) (to from : ℤ) →
     HoldsDifference e r w to from → HoldsDifference e' (with_section r s) w to from
-holds_of e e' a r s t (Bits n) to from is =
-    subst (λ (o : Option ℕ). IsSomeAnd o (λ x. int_rem_euclid (to -ℤ from) (pos (2 ^ n)) ≡ pos (x % 2 ^ n)))
-    (number_alike e e' a r.place (bytes_of_bits n)) is
+holds_of e e' a r s t (Bits n) to from is = grind (arith, common_steps, number_alike)
 holds_of e e' a r s t Uleb128 to from is =
     subst (λ (o : Option (List ℕ)). IsSomeAnd o (λ bs. HoldBits bs (to -ℤ from))) (leb_field_alike e e' a r s t) is
 
