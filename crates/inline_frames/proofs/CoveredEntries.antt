@@ -22,23 +22,11 @@ abbrev Above : ℕ → List Ranged → Type 0
 Above lo [] = Prim.Unit {0}
 Above lo (r ∷ rs) = (lo ≤ r.entry.place) × Above (r.entry.place + 1) rs
 
-above_less : (less lo : ℕ) (rs : List Ranged) → less ≤ lo → Above lo rs → Above less rs
-above_less less lo [] h up = tt
-above_less less lo (r ∷ rs) h up = let g = up.0 in (omega arith, up.1)
-
 apart : (a b : ℕ) → a + 1 ≤ b → (b == a) ≡ false
 apart a b h = grind (arith, nat_tests)
 
 apart_above : (a b : ℕ) → a + 1 ≤ b → (a == b) ≡ false
 apart_above a b h = grind (arith, nat_tests)
-
-and_so : (b c : Bool) → c ≡ true → (b && c) ≡ b
-and_so true c e = e
-and_so false c e = refl
-
-or_no : (b c : Bool) → c ≡ false → (b || c) ≡ b
-or_no true c e = refl
-or_no false c e = e
 
 abbrev stands : ℕ → ℕ → Ranged → Bool
 stands place a q = hold q.own a && q.entry.place == place

@@ -1,11 +1,12 @@
 -- Units without any of some offsets have no link, and no naming, of an entry at one of these.
 use Rattle.std.proofs.Common.{◌≡◌, ◌∙◌, ◌≤◌, ◌+◌, ℕ, Bool, true, false, cond, List, [], ◌∷◌, Some, None, Ok, Err, Result, refl, sym, ap}
 use Rattle.std.proofs.Common.{arith, map}
-use Rattle.std.specs.Prelude.{◌==◌, ◌&&◌, ◌||◌, if◌then◌else◌, option_map}
+use Rattle.std.specs.Prelude.{◌==◌, ◌||◌, if◌then◌else◌, option_map}
 use Rattle.std.specs.BTreeSet.{BTreeSet, contains}
 use Rattle.std.specs.List.{find}
 use Rattle.std.specs.Ordering.{nat_cmp}
 use Rattle.std.proofs.lemmas.Bool.Decides.{nat_tests}
+use Rattle.std.proofs.lemmas.Bool.{and_right}
 use Rattle.table_core.specs.DebugUnits.{Walked}
 use Rattle.dw_unit.specs.CompUnits.{Entry, Unit, enclosing, end_of, unit_of}
 use Rattle.dw_unit.specs.Faults.{fails}
@@ -28,10 +29,6 @@ rise_within from to (e ∷ es) r =
     let rest = rise_within (e.place + 1) to es r.1 in
     omega arith
 
-and_false : (b c : Bool) → c ≡ false → (b && c) ≡ false
-and_false true c e = e
-and_false false c e = refl
-
 no_chain : (test : Entry → Bool) (before es : List Entry) → AllOf (λ (e : Entry). test e ≡ false) es → chain_in test [] before es ≡ []
 no_chain test before [] h = refl
 no_chain test before (e ∷ es) h =
@@ -46,7 +43,7 @@ module _ (places : BTreeSet ℕ) where
   no_functions : (es : List Entry) → AreElsewhere es → AllOf (λ (e : Entry). function_test places e ≡ false) (map plain (map listed es))
   no_functions [] h = tt
   no_functions (e ∷ es) h = (
-    and_false (e.declaration.tag == DW_TAG_subprogram || e.declaration.tag == DW_TAG_inlined_subroutine)
+    and_right (e.declaration.tag == DW_TAG_subprogram || e.declaration.tag == DW_TAG_inlined_subroutine)
         (contains nat_cmp places e.place) h.0,
     no_functions es h.1,
   )

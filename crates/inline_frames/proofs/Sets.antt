@@ -1,10 +1,9 @@
 -- Sets of numbers, with one more number.
-use Rattle.std.proofs.Common.{◌≡◌, ◌∙◌, ◌<◌, ◌≤◌, ◌+◌, ℕ, Bool, true, false, cond, List, refl, sym, ap, arith, get_or, length, nat_cmp}
+use Rattle.std.proofs.Common.{◌≡◌, ◌∙◌, ◌<◌, ◌+◌, ℕ, Bool, true, false, cond, List, refl, sym, ap, get_or, length, nat_cmp}
 use Rattle.std.proofs.Common.{take}
 use Rattle.std.specs.Prelude.{◌==◌, ◌||◌}
 use Rattle.std.specs.List.{list_any}
 use Rattle.std.specs.BTreeMap.{is_at}
-use Rattle.std.proofs.lemmas.Grind.{common_steps}
 use Rattle.std.proofs.lemmas.List.Folds.{list_any_more}
 use Rattle.range_loc_rewrite.proofs.NumberSets.{at_key}
 
@@ -31,7 +30,3 @@ module _ {X : Type 0} (test : X → Bool) (xs : List X) (i : ℕ) (d : X) (old :
     or_false : (c : Bool) → c ≡ (c || false)
     or_false true = refl
     or_false false = refl
-
-pub has_all : {X : Type 0} (test : X → Bool) (xs : List X) (i : ℕ) (old : Bool) → length xs ≤ i → old ≡ list_any test (take i xs) →
-    old ≡ list_any test xs
-has_all test xs i old h inv = let all : take i xs ≡ xs = grind (arith, common_steps) in inv ∙ ap (list_any test) all
