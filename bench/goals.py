@@ -6,7 +6,8 @@
 
 The files, of which FILE.. names some:
 
-- `big`: 26 MiB with all debug tables and unwind tables, by GCC with `-O2 -g`, of 2,200 functions of 100 instructions;
+- `big`: 26 MiB with all debug tables and unwind tables, by GCC with `-O2 -g`: 2,400 functions of 86 instructions, and
+  1.6 MB of `.debug_line`;
 - `tables`: 27 MiB the same way, of 2,400 functions of 57 instructions, with more lists (debug_files.py);
 - `lua`: Lua with all debug tables, by GCC with `-O2 -g` (packages.py; its source package is fetched into FOLDER);
 - `bare`: 27 MiB without debug tables, with a relocation for each reference (rewrite.py).
