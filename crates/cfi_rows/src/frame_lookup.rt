@@ -1,5 +1,5 @@
 // The rows of entries at addresses. DWARF 5, section 6.4.3.
-ghost use Rattle.std.specs.Prelude.{◌≡◌, IfOk, IsTrue, Some, None, slice_get, option_map, option_and_then};
+ghost use Rattle.std.specs.Prelude.{◌≡◌, ◌≤◌, ℕ, IfOk, IsTrue, Some, None, slice_get, option_map, option_and_then};
 ghost use Rattle.cfi_rows.specs.Entries.{Fde as Entry, is_in_range};
 ghost use Rattle.cfi_rows.specs.FrameRows as spec;
 ghost use Rattle.cfi_rows.specs.ReadFrames.{read_as};
@@ -31,14 +31,14 @@ impl Frames {
         }
     }
 
-    /// Whether two addresses have the same row of entry `i` of the list; `false` if there is no such entry.
-    pub fn alike(&self, i: usize, a: u64, b: u64) -> bool
-        ensures { IsTrue result → (f : Entry) → slice_get (read_as self.now).list i ≡ Some f →
-            spec.row_at a f.rows None ≡ spec.row_at b f.rows None }
+    /// The last address up to which entry `i` of the list certainly has the same row as at `a`, or none.
+    pub fn last_alike(&self, i: usize, a: u64) -> u64
+        ensures { (x : ℕ) → a ≤ x → x ≤ result → (f : Entry) → slice_get (read_as self.now).list i ≡ Some f →
+            spec.row_at x f.rows None ≡ spec.row_at a f.rows None }
     {
         match self.rows.get(i) {
-            Some(rows) => rows.alike(a, b),
-            None => false,
+            Some(rows) => rows.last_alike(a),
+            None => a,
         }
     }
 }

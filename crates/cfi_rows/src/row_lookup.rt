@@ -1,5 +1,5 @@
 // The row of an entry at an address. DWARF 5, section 6.4.3.
-ghost use Rattle.std.specs.Prelude.{◌≡◌, ◌<◌, ◌≤◌, ℕ, All, None, Some, IfOk, IfSome, IsTrue};
+ghost use Rattle.std.specs.Prelude.{◌≡◌, ◌<◌, ◌≤◌, ℕ, All, None, Some, IfOk, IfSome};
 ghost use Rattle.std.specs.Prelude.{length, slice_get, slice_index_or, option_map, option_and_then};
 ghost use Rattle.std.specs.List.Sorted.{IsNonDecreasingBy};
 ghost use Rattle.cfi_rows.specs.declared.row_history.KeptRow.{KeptRow as Kept};
@@ -22,6 +22,19 @@ fn count_up_to(rows: &[KeptRow], address: u64) -> usize
         address < (slice_index_or rows.now k d).start }
 {
     rows.partition_point(|row| row.start <= address)
+}
+
+// The last address before the row with an index; 2^64 - 1 if there is no such row.
+fn last_before(rows: &[KeptRow], i: usize, a: u64) -> u64
+    requires rises { IsNonDecreasingBy (λ r. r.start) rows.now }
+    requires above { (k : ℕ) (d : Kept) → i ≤ k → k < length rows.now → a < (slice_index_or rows.now k d).start }
+    ensures { (x k : ℕ) (d : Kept) → x ≤ result → i ≤ k → k < length rows.now →
+        x < (slice_index_or rows.now k d).start }
+{
+    match rows.get(i) {
+        Some(row) => row.start.saturating_sub(1),
+        None => u64::MAX,
+    }
 }
 
 impl RowHistory {
@@ -93,10 +106,11 @@ impl EntryRows {
         }
     }
 
-    /// Whether one row holds at two addresses.
-    pub(crate) fn alike(&self, a: u64, b: u64) -> bool
-        ensures { IsTrue result → spec.row_at a self.now None ≡ spec.row_at b self.now None }
+    /// The last address up to which the row that holds at an address goes on holding, or none does.
+    pub(crate) fn last_alike(&self, a: u64) -> u64
+        ensures { (x : ℕ) → a ≤ x → x ≤ result → spec.row_at x self.now None ≡ spec.row_at a self.now None }
     {
-        self.index_at(a) == self.index_at(b)
+        let above = count_up_to(&self.history.rows, a);
+        last_before(&self.history.rows, above, a)
     }
 }

@@ -311,7 +311,8 @@ fdes-size form spans keys (suc n) place (r ∷ rs) ascend =
     (spelled_entries (fde_entries form spans keys n
     (place + 8 + length (fde_body form place spans r (take (more_count r rs) rs))) (drop (more_count r rs) rs))))
     (body-size form place spans r (take (more_count r rs) rs) (All-cons RunAscends r (take (more_count r rs) rs)
-    (All-head RunAscends r rs ascend) (All-take RunAscends (more_count r rs) rs (All-tail RunAscends r rs ascend)))) (length-split (more_count r rs) rs) (total-split (more_count r rs) rs)
+    (All-head RunAscends r rs ascend) (All-take RunAscends (more_count r rs) rs (All-tail RunAscends r rs ascend))))
+    (length-split (more_count r rs) rs) (total-split (more_count r rs) rs)
     (fdes-size form spans keys n (place + 8 + length (fde_body form place spans r (take (more_count r rs) rs)))
     (drop (more_count r rs) rs) (All-drop RunAscends (more_count r rs) rs (All-tail RunAscends r rs ascend))) (total-cons r rs) where
       sums : (t b rest s taken left count both front back u : ℕ) → t ≡ 8 + b + rest → 8 + b + 8 * suc taken ≤ s + front

@@ -42,14 +42,16 @@ module _ (a : ℕ) where
       → Contains list f → last_or o (filter begins list) ≡ Some f
   finds f o [] holds rise apart some c = absurd (Contains-nil f c)
   finds f o (g ∷ gs) holds rise apart some c =
-      either (Contains-cons_cases g gs f c) (λ p. finds f p gs holds (λ i j d less inside. rise (suc i) (suc j) d (omega arith) (omega arith))
+      either (Contains-cons_cases g gs f c)
+      (λ p. finds f p gs holds (λ i j d less inside. rise (suc i) (suc j) d (omega arith) (omega arith))
       (λ i j d less inside. apart (suc i) (suc j) d (omega arith) (omega arith)) (All-tail (λ (x : Fde). x.start < x.end) g gs some)) where
         started : (s e : ℕ) → (leb s a && ltb a e) ≡ true → leb s a ≡ true
         started s e t = grind (arith, nat_tests)
 
         later : g ≡ f → All (λ x. begins x ≡ false) gs
         later same k d inside =
-            is-behind g (get_or gs k d) (subst (λ (x : Fde). is_in_range x a ≡ true) (sym same) holds) (rise zero (suc k) d (omega arith) (omega arith))
+            is-behind g (get_or gs k d) (subst (λ (x : Fde). is_in_range x a ≡ true) (sym same) holds)
+            (rise zero (suc k) d (omega arith) (omega arith))
             (apart zero (suc k) d (omega arith) (omega arith)) (All-tail (λ (x : Fde). x.start < x.end) g gs some k d inside)
 
         by : (b : Bool) → leb g.start a ≡ b → ((p : Option Fde) → Contains gs f → last_or p (filter begins gs) ≡ Some f)

@@ -78,7 +78,8 @@ plain-keys spans keys runs needed plain =
     let there = needed kinds (all_of (λ (r : Run FrameAnswer). Contains kinds (key_of spans r.answer)) runs
     (λ r c. mapped (λ (r : Run FrameAnswer). key_of spans r.answer) runs r c)) in
     let all = All-map (λ k. has_data true k ≡ false) (λ (r : Run FrameAnswer). key_of spans r.answer) runs plain in
-    all_of (λ k. has_data true k ≡ false) keys (λ k c. All-contains (λ k. has_data true k ≡ false) kinds k all (All-contains (Contains kinds) keys k there c))
+    all_of (λ k. has_data true k ≡ false) keys
+    (λ k c. All-contains (λ k. has_data true k ≡ false) kinds k all (All-contains (Contains kinds) keys k there c))
 
 -- Their CIEs have no text.
 

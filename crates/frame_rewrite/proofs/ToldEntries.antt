@@ -114,3 +114,8 @@ pub item-at : (xs kept : List ReadFde) (i : ℕ) (fde : ReadFde) → true ≡ na
 item-at xs kept i fde t e f =
     let within : i < length xs = grind (arith, nat_tests) in
     ap (λ ys. slice_get ys i) (sym f) ∙ slice_get-get_or xs i fde within ∙ ap (λ (x : ReadFde). Some x) (sym e)
+
+-- a table that lists nothing
+pub nothing-read : (list : List Fde) (kept : List ReadFde) → map fde_of list ≡ kept → length kept ≡ 0 → list ≡ []
+nothing-read [] kept e h = refl
+nothing-read (f ∷ fs) kept e h = absurd (omega (arith, ap length e, h))

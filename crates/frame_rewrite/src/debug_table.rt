@@ -1,5 +1,4 @@
 // What `.debug_frame` answers by address.
-ghost use Rattle.std.specs.Prelude.{◌≡◌};
 ghost use Rattle.frame_rewrite.specs.CarriedFrames.{IsCarriedFrame};
 ghost use Rattle.frame_rewrite.specs.FrameAnswers.{FrameAnswer};
 ghost use Rattle.frame_rewrite.specs.Faults.{IsFrameFault};
@@ -8,7 +7,7 @@ ghost use Rattle.cfi_rows.specs.Frames.{debug_frames};
 
 use crate::answer::{FrameAt, most_size, size_of};
 use crate::debug::DebugFrames;
-use crate::lookup::{alike, index_of, tell};
+use crate::lookup::{index_of, tell};
 use crate::same::same_answer;
 use crate::write_runs::write_debug;
 use addr_map::AddrMap;
@@ -22,11 +21,15 @@ use table_core::{AddrTable, ByAddress, Written};
 impl ByAddress for DebugFrames {
     type Answer = FrameAt;
 
+    type Near = ();
+
     ghost Meaning = { FrameAnswer };
 
     ghost said = { λ x. x };
 
     ghost says = { spec.debug_says };
+
+    ghost is_near = { λ t near. Unit {0} };
 
     ghost means = { spec.debug_answers };
 
@@ -40,8 +43,6 @@ impl ByAddress for DebugFrames {
 
     ghost carries = { IsCarriedFrame };
 
-    ghost weighs = { λ t spans n. n ≡ 0 };
-
     ghost fits = { spec.DebugFits };
 
     ghost makes = { λ t spans runs w. spec.DebugMakes t spans w };
@@ -54,11 +55,19 @@ impl ByAddress for DebugFrames {
         same_answer(x, y)
     }
 
-    fn at(&self, alloc: Global, a: u64) -> Result<Option<FrameAt>, NoMemory> {
-        match tell(alloc, &self.frames, &self.index, a)? {
-            Some(told) => Ok(Some(told.answer(false))),
-            None => Ok(None),
-        }
+    fn begin(_alloc: Global) {}
+
+    fn find(
+        &self,
+        alloc: Global,
+        _near: &mut (),
+        a: u64,
+    ) -> Result<(Option<FrameAt>, u64), NoMemory> {
+        let (told, last) = tell(alloc, &self.frames, &self.index, a)?;
+        let Some(told) = told else {
+            return Ok((None, last));
+        };
+        Ok((Some(told.answer(false)), last))
     }
 
     fn size(answer: &FrameAt) -> usize {
@@ -69,12 +78,8 @@ impl ByAddress for DebugFrames {
         most_size(self.file_size)
     }
 
-    fn alike(&self, a: u64, b: u64) -> bool {
-        alike(&self.frames, &self.index, a, b)
-    }
-
     fn is_silent(&self) -> bool {
-        self.frames.section.is_empty()
+        self.frames.list.is_empty()
     }
 }
 
@@ -90,10 +95,6 @@ impl AddrTable for DebugFrames {
             index,
             file_size: elf.file.len(),
         })
-    }
-
-    fn weight(&self, _alloc: Global, map: &AddrMap) -> Result<u64, NoMemory> {
-        Ok(0)
     }
 
     fn write_runs(

@@ -1,5 +1,4 @@
 // What `.eh_frame` answers by address.
-ghost use Rattle.std.specs.Prelude.{◌≡◌};
 ghost use Rattle.frame_rewrite.specs.CarriedFrames.{IsCarriedFrame};
 ghost use Rattle.frame_rewrite.specs.FrameAnswers.{FrameAnswer};
 ghost use Rattle.frame_rewrite.specs.Faults.{IsFrameFault};
@@ -8,7 +7,7 @@ ghost use Rattle.cfi_rows.specs.Frames.{eh_frames};
 
 use crate::answer::{FrameAt, most_size, size_of};
 use crate::eh::EhFrames;
-use crate::lookup::{alike, index_of, tell};
+use crate::lookup::{index_of, tell};
 use crate::marks::is_marked;
 use crate::same::same_answer;
 use crate::write_runs::write_eh;
@@ -23,11 +22,15 @@ use table_core::{AddrTable, ByAddress, Written};
 impl ByAddress for EhFrames {
     type Answer = FrameAt;
 
+    type Near = ();
+
     ghost Meaning = { FrameAnswer };
 
     ghost said = { λ x. x };
 
     ghost says = { spec.eh_says };
+
+    ghost is_near = { λ t near. Unit {0} };
 
     ghost means = { spec.eh_answers };
 
@@ -41,8 +44,6 @@ impl ByAddress for EhFrames {
 
     ghost carries = { IsCarriedFrame };
 
-    ghost weighs = { λ t spans n. n ≡ 0 };
-
     ghost fits = { spec.EhFits };
 
     ghost makes = { spec.EhMakes };
@@ -55,14 +56,20 @@ impl ByAddress for EhFrames {
         same_answer(x, y)
     }
 
-    fn at(&self, alloc: Global, a: u64) -> Result<Option<FrameAt>, NoMemory> {
-        match tell(alloc, &self.frames, &self.index, a)? {
-            Some(told) => {
-                let marked = is_marked(&self.cuts, &told.fde);
-                Ok(Some(told.answer(marked)))
-            }
-            None => Ok(None),
-        }
+    fn begin(_alloc: Global) {}
+
+    fn find(
+        &self,
+        alloc: Global,
+        _near: &mut (),
+        a: u64,
+    ) -> Result<(Option<FrameAt>, u64), NoMemory> {
+        let (told, last) = tell(alloc, &self.frames, &self.index, a)?;
+        let Some(told) = told else {
+            return Ok((None, last));
+        };
+        let marked = is_marked(&self.cuts, &told.fde);
+        Ok((Some(told.answer(marked)), last))
     }
 
     fn size(answer: &FrameAt) -> usize {
@@ -73,12 +80,8 @@ impl ByAddress for EhFrames {
         most_size(self.file_size)
     }
 
-    fn alike(&self, a: u64, b: u64) -> bool {
-        alike(&self.frames, &self.index, a, b)
-    }
-
     fn is_silent(&self) -> bool {
-        self.frames.section.is_empty()
+        self.frames.list.is_empty()
     }
 }
 
@@ -97,10 +100,6 @@ impl AddrTable for EhFrames {
             index,
             file_size: elf.file.len(),
         })
-    }
-
-    fn weight(&self, _alloc: Global, map: &AddrMap) -> Result<u64, NoMemory> {
-        Ok(0)
     }
 
     fn write_runs(

@@ -1,5 +1,5 @@
 // The entry of a frame table that holds an address, and its answer there.
-ghost use Rattle.std.specs.Prelude.{◌≡◌, ℕ, List, IfOk, IsTrue, map, option_map, position};
+ghost use Rattle.std.specs.Prelude.{◌≡◌, ◌≤◌, ℕ, List, IfOk, map, option_map, position};
 ghost use Rattle.answer_runs.specs.AddressRanges.{holds_address};
 ghost use Rattle.answer_runs.specs.FirstRanges.{first_range};
 ghost use Rattle.cfi_rows.specs.Entries.{Fde as Entry, range_of};
@@ -62,35 +62,28 @@ fn ranges_of(alloc: Global, list: &[Fde]) -> Result<Vec<Range>, NoMemory>
 }
 
 /// The first entry that holds address `a`, and its row there, by an index of the table's entries; none if no entry
-/// holds it.
+/// holds it. Also the last address up to which that stays so.
 pub(crate) fn tell(
     alloc: Global,
     frames: &Frames,
     index: &FirstRange,
     a: u64,
-) -> Result<Option<Told>, NoMemory>
+) -> Result<(Option<Told>, u64), NoMemory>
     requires { (a : ℕ) → first_range index.now a ≡ position (holds_address a) (map range_of (read_as frames.now).list) }
-    ensures { IfOk result (λ o. option_map (λ t. (t.fde, t.row)) o ≡ told_at (read_as frames.now).list a) }
+    ensures told { IfOk result (λ r. option_map (λ t. (t.fde, t.row)) r.0 ≡ told_at (read_as frames.now).list a) }
+    ensures last { IfOk result (λ r. (x : ℕ) → a ≤ x → x ≤ r.1 →
+        told_at (read_as frames.now).list x ≡ told_at (read_as frames.now).list a) }
 {
-    let Some(i) = index.find(a) else {
-        return Ok(None);
+    let (found, last) = index.piece(a);
+    let Some(i) = found else {
+        return Ok((None, last));
     };
     let Some(fde) = frames.list.get(i) else {
-        return Ok(None);
+        return Ok((None, a));
     };
+    let last = last.min(frames.last_alike(i, a));
     match frames.row_at(alloc, i, a)? {
-        Some(row) => Ok(Some(Told { fde: *fde, row })),
-        None => Ok(None),
+        Some(row) => Ok((Some(Told { fde: *fde, row }), last)),
+        None => Ok((None, last)),
     }
-}
-
-/// Whether two addresses certainly have the same entry and the same row of it, by an index of the table's entries.
-pub(crate) fn alike(frames: &Frames, index: &FirstRange, a: u64, b: u64) -> bool
-    requires { (a : ℕ) → first_range index.now a ≡ position (holds_address a) (map range_of (read_as frames.now).list) }
-    ensures { IsTrue result → told_at (read_as frames.now).list a ≡ told_at (read_as frames.now).list b }
-{
-    let (Some(i), Some(j)) = (index.find(a), index.find(b)) else {
-        return false;
-    };
-    i == j && frames.alike(i, a, b)
 }

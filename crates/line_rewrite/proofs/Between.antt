@@ -1,46 +1,62 @@
--- Two addresses without a row between them: the same rows are in force at both.
-use Rattle.std.proofs.Common.{◌≡◌, ◌<◌, ◌≤◌, ◌∙◌, ℕ, List, [], ◌∷◌, refl, arith, sym, ap, nat_le, Bool, true, false, cond, ◌⊎◌, inl, inr}
-use Rattle.std.specs.Prelude.{nat_lt}
+-- The rows in force up to the next row.
+use Rattle.std.proofs.Common.{◌≡◌, ◌<◌, ◌≤◌, ◌+◌, ◌∙◌, ℕ, Bool, true, false, cond, List, [], ◌∷◌, Option, Some, None, refl, sym, ap, arith}
+use Rattle.std.proofs.Common.{◌⊎◌, inl, inr, nat_le, nat_lt, drop, get_or, length}
 use Rattle.std.proofs.lemmas.Bool.Decides.{nat_tests}
+use Rattle.std.proofs.lemmas.List.{drop_more}
+use Rattle.std.proofs.lemmas.Grind.{common_steps}
 use Rattle.line_rewrite.specs.declared.registers.Registers.{Registers}
 use Rattle.line_rewrite.specs.LineMachine.{in_force, reached, greatest_address}
-use Rattle.line_rewrite.specs.Walks.{Ascends, none_between}
+use Rattle.line_rewrite.specs.Walks.{Ascends, next_above}
 use Rattle.line_rewrite.proofs.InForce.{at_address, none_reached}
 
--- Of ascending rows, those up to either address
-
 abbrev Row : ℕ → ℕ → ℕ → Type 0
-Row a b x = ((b < x) × (nat_lt b x ≡ true) × (nat_le x a ≡ false) × (nat_le x b ≡ false))
-    ⊎ (((nat_lt b x ≡ false) × (nat_lt a x ≡ true)) ⊎
-    ((nat_lt b x ≡ false) × (nat_lt a x ≡ false) × (nat_le x a ≡ true) × (nat_le x b ≡ true)))
+Row a x y = ((a < y) × (nat_lt a y ≡ true)) ⊎ ((nat_lt a y ≡ false) × (nat_le y a ≡ true) × (nat_le y x ≡ true))
 
-row_cases : (a b x : ℕ) → a ≤ b → Row a b x
-row_cases a b x h = grind (arith, nat_tests)
+row_cases : (a x y : ℕ) → a ≤ x → Row a x y
+row_cases a x y h = grind (arith, nat_tests)
 
-never : (P : Type 0) → false ≡ true → P
-never P e = absurd (cc)
+-- the next row, if the first one isn't above the address
+by_first : (a : ℕ) (r : Registers) (rows : List Registers) (t : Bool) → nat_lt a r.address ≡ t →
+    next_above a (r ∷ rows) ≡ cond t (Some r.address) (next_above a rows)
+unfolding next_above
+by_first a r rows t e = ap (λ (b : Bool). cond b (Some r.address) (next_above a rows)) e
 
-reached_alike : (from a b : ℕ) (rows : List Registers) → a ≤ b → Ascends from rows → none_between a b rows ≡ true
-    → reached a rows ≡ reached b rows
-unfolding none_between
-reached_alike from a b [] h up none = refl
-reached_alike from a b (r ∷ rows) h up none =
-    elim (row_cases a b r.address h) [
-      | inl past ↦ rw (past.2, past.3)
-          (none_reached r.address a rows up.1 (omega (arith, past.0)) ∙ sym (none_reached r.address b rows up.1 past.0))
-      | inr on ↦ elim on [
-        | inl between ↦
-            never _ (sym (ap (λ (t : Bool). cond t true (cond (nat_lt a r.address) false (none_between a b rows))) between.0
-            ∙ ap (λ (t : Bool). cond t false (none_between a b rows)) between.1) ∙ none)
-        | inr up_to ↦
-            let more : none_between a b rows ≡ true =
-            sym (ap (λ (t : Bool). cond t true (cond (nat_lt a r.address) false (none_between a b rows))) up_to.0
-            ∙ ap (λ (t : Bool). cond t false (none_between a b rows)) up_to.1) ∙ none in
-            rw (up_to.2, up_to.3) (ap (λ (l : List Registers). r ∷ l) (reached_alike r.address a b rows h up.1 more))
-      ]
+reached_alike : (from a x : ℕ) (rows : List Registers) → a ≤ x → Ascends from rows →
+    ((next : ℕ) → next_above a rows ≡ Some next → x < next) → reached x rows ≡ reached a rows
+reached_alike from a x [] h up before = refl
+reached_alike from a x (r ∷ rows) h up before =
+    elim (row_cases a x r.address h) [
+      | inl past ↦
+          let low : x < r.address = before r.address (by_first a r rows true past.1) in
+          none_reached r.address x (r ∷ rows) (omega arith, up.1) low
+          ∙ sym (none_reached r.address a (r ∷ rows) (omega arith, up.1) past.0)
+      | inr on ↦
+          rw (on.1, on.2) (ap (λ (l : List Registers). r ∷ l)
+          (reached_alike r.address a x rows h up.1 (λ next e. before next (by_first a r rows false on.0 ∙ e))))
     ]
 
-pub rows_alike : (a b : ℕ) (rows : List Registers) → a ≤ b → Ascends 0 rows → none_between a b rows ≡ true
-    → in_force a rows ≡ in_force b rows
+pub rows_alike : (a x : ℕ) (rows : List Registers) → a ≤ x → Ascends 0 rows →
+    ((next : ℕ) → next_above a rows ≡ Some next → x < next) → in_force x rows ≡ in_force a rows
 unfolding in_force
-rows_alike a b rows h up none = ap (λ (l : List Registers). at_address (greatest_address l) l) (reached_alike 0 a b rows h up none)
+rows_alike a x rows h up before =
+    ap (λ (l : List Registers). at_address (greatest_address l) l) (reached_alike 0 a x rows h up before)
+
+-- the rows from an index on
+
+module _ (a i : ℕ) (rows : List Registers) (whole : Option ℕ) (inv : next_above a (drop i rows) ≡ whole) where
+  pub above_done : length rows ≤ i → None ≡ whole
+  unfolding next_above
+  above_done h =
+      let none : drop i rows ≡ [] = grind (arith, common_steps) in
+      sym (ap (next_above a) none) ∙ inv
+
+  module _ (d : Registers) (here : i < length rows) where
+    pub above_there : a < (get_or rows i d).address → Some (get_or rows i d).address ≡ whole
+    above_there h =
+        let t : nat_lt a (get_or rows i d).address ≡ true = grind (arith, nat_tests) in
+        sym (ap (next_above a) (drop_more rows i d here) ∙ by_first a (get_or rows i d) (drop (i + 1) rows) true t) ∙ inv
+
+    pub above_more : (get_or rows i d).address ≤ a → next_above a (drop (i + 1) rows) ≡ whole
+    above_more h =
+        let t : nat_lt a (get_or rows i d).address ≡ false = grind (arith, nat_tests) in
+        sym (ap (next_above a) (drop_more rows i d here) ∙ by_first a (get_or rows i d) (drop (i + 1) rows) false t) ∙ inv

@@ -1,10 +1,10 @@
 -- The rows in force, for rows that ascend.
 use Rattle.std.proofs.Common.{◌≡◌, ◌<◌, ◌≤◌, ◌==◌, ◌++◌, ℕ, List, [], ◌∷◌, refl, arith, sym, ◌∙◌, ap, append_assoc, Bool, true, false, cond}
 use Rattle.std.proofs.Common.{nat_le, max, subst, ◌⊎◌, inl, inr}
-use Rattle.std.specs.Prelude.{filter}
+use Rattle.std.specs.Prelude.{All, filter}
 use Rattle.std.proofs.lemmas.Grind.{common_steps}
 use Rattle.std.proofs.lemmas.Bool.Decides.{nat_tests}
-use Rattle.std.proofs.lemmas.List.Elements.{filter-append}
+use Rattle.std.proofs.lemmas.List.Elements.{All-cons, All-head, All-nil, All-tail, filter-append}
 use Rattle.line_rewrite.specs.declared.registers.Registers.{Registers}
 use Rattle.line_rewrite.specs.LineMachine.{in_force, reached, greatest_address}
 use Rattle.line_rewrite.specs.Walks.{latest, Ascends}
@@ -13,6 +13,15 @@ use Rattle.line_rewrite.specs.Walks.{latest, Ascends}
 abbrev pub AllBelow : ℕ → List Registers → Type 0
 AllBelow m [] = Unit {0}
 AllBelow m (r ∷ rows) = (r.address < m) × AllBelow m rows
+
+pub below_all : (m : ℕ) (rows : List Registers) → AllBelow m rows → All (λ (r : Registers). r.address < m) rows
+below_all m [] b = All-nil (λ (r : Registers). r.address < m)
+below_all m (r ∷ rows) b = All-cons (λ (r : Registers). r.address < m) r rows b.0 (below_all m rows b.1)
+
+pub all_below : (m : ℕ) (rows : List Registers) → All (λ (r : Registers). r.address < m) rows → AllBelow m rows
+all_below m [] b = tt
+all_below m (r ∷ rows) b =
+    (All-head (λ (r : Registers). r.address < m) r rows b, all_below m rows (All-tail (λ (r : Registers). r.address < m) r rows b))
 
 abbrev pub AllAt : ℕ → List Registers → Type 0
 AllAt m [] = Unit {0}

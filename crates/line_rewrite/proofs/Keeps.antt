@@ -1,13 +1,12 @@
 -- The walk over a sequence, of which states are kept.
 use Rattle.std.proofs.Common.{◌≡◌, ◌<◌, ◌≤◌, ◌-◌, ◌+◌, ◌||◌, ◌++◌, nat_le, get_or, ℕ, List, [], ◌∷◌, refl, arith, sym, ◌∙◌, ap, subst, Ok}
-use Rattle.std.proofs.Common.{Err, map, append_assoc, length, drop, length-drop, length-append, Option, Some, None, Bool, true, false}
-use Rattle.std.proofs.Common.{cond, ⊎_elim}
+use Rattle.std.proofs.Common.{map, append_assoc, length, drop, length-drop, length-append, Option, Some, None, Bool, true, false}
+use Rattle.std.proofs.Common.{cond, ◌&&◌, take, zero, suc, ⊎_elim}
 use Rattle.std.proofs.lemmas.Bool.Decides.{nat_tests}
 use Rattle.std.proofs.lemmas.List.{drop-drop, get_or_push, append-nil, map-append}
 use Rattle.std.proofs.Math.ListN.{get_or-append}
-use Rattle.std.proofs.lemmas.Bool.{cases_lt}
+use Rattle.std.proofs.lemmas.Bool.{and_parts, cases_lt, leb-true, ltb-true}
 use Rattle.std.proofs.lemmas.Grind.{common_steps}
-use Rattle.rb_bytes.specs.declared.gap.Gap.{Gap}
 use Rattle.line_rewrite.specs.declared.coding.Coding.{Coding}
 use Rattle.line_rewrite.specs.declared.registers.Registers.{Registers}
 use Rattle.line_rewrite.specs.declared.kept.Kept.{Kept}
@@ -16,14 +15,16 @@ use Rattle.line_rewrite.specs.declared.effect.Effect.{Effect}
 use Rattle.line_rewrite.specs.declared.effect.Effect.TheVariants.{Appends, Ends, Sets}
 use Rattle.line_rewrite.specs.Operations.{op_at, operations}
 use Rattle.line_rewrite.specs.LineMachine.{rows_from, rows_behind, after_op, after_row, effect_of, start, sequences, sequences_from}
-use Rattle.line_rewrite.specs.LineMachine.{sequences_behind, Sequence}
+use Rattle.line_rewrite.specs.LineMachine.{sequences_behind, follows, Sequence}
 use Rattle.line_rewrite.specs.declared.kept.Due.{Due}
 use Rattle.line_rewrite.specs.Keeping.{rows_at_place, IsBefore, AreKept, Begins, is_due, kept_more, low_of}
 use Rattle.line_rewrite.specs.declared.kept.KeptSequence.{KeptSequence}
 use Rattle.line_rewrite.specs.KeptSequences.{IsKept, told_sequence}
 use Rattle.line_rewrite.specs.LineAnswers.{first_address}
+use Rattle.line_rewrite.specs.Walks.{is_above}
+use Rattle.line_rewrite.proofs.InForce.{AllBelow, below_all}
 use Rattle.line_rewrite.proofs.Shortens.{op_shortens, twice}
-use Rattle.line_rewrite.proofs.Steps.{rows_step, operations_step, operations_gap, operations_end}
+use Rattle.line_rewrite.proofs.Steps.{rows_step, operations_step, operations_end}
 
 pub sequences_step : (coding : Coding) (rows : List Registers) (r : Registers) (lengths bytes rest : List ℕ) (op : LineOp)
     → op_at coding.opcode_base lengths bytes ≡ Ok (op, rest)
@@ -39,14 +40,48 @@ pub sequences_none : (coding : Coding) (rows : List Registers) (r : Registers) (
 unfolding sequences_from
 sequences_none coding rows r ops e = ap (sequences_from coding rows r) e
 
--- While no state is kept, one is due.
-abbrev pub FirstDue : Due → List Kept → Type 0
-FirstDue due [] = due.row ≡ 0
-FirstDue due (k ∷ kept) = Unit {0}
+-- While no state is kept, there was no row, and a state is due.
+abbrev pub FirstDue : Option ℕ → Due → List Kept → Type 0
+FirstDue last due [] = (last ≡ None) × (due.row ≡ 0)
+FirstDue last due (k ∷ kept) = Unit {0}
+
+-- None of the rows so far is above the last one.
+abbrev pub AreUpTo : Option ℕ → ℕ → List Registers → Type 0
+AreUpTo None count whole = count ≡ 0
+AreUpTo (Some last) count whole = AllBelow (last + 1) (take count whole)
+
+below_nothing : (m : ℕ) (rows : List Registers) → AllBelow m (take zero rows)
+below_nothing m [] = tt
+below_nothing m (x ∷ rows) = tt
+
+below_more : (m n : ℕ) (rows : List Registers) → m ≤ n → AllBelow m rows → AllBelow n rows
+below_more m n [] le b = tt
+below_more m n (r ∷ rows) le b = let i : r.address < m = b.0 in (omega arith, below_more m n rows le b.1)
+
+up_to_below : (last : Option ℕ) (count m : ℕ) (whole : List Registers) → AreUpTo last count whole →
+    ((n : ℕ) → last ≡ Some n → n < m) → AllBelow m (take count whole)
+up_to_below None count m whole up h = subst (λ (n : ℕ). AllBelow m (take n whole)) (sym up) (below_nothing m whole)
+up_to_below (Some n) count m whole up h = let i : n < m = h n refl in below_more (n + 1) m (take count whole) (omega arith) up
+
+below_next : (n m : ℕ) (whole : List Registers) (next : Registers) (more : List Registers) → drop n whole ≡ next ∷ more →
+    AllBelow m (take n whole) → next.address < m → AllBelow m (take (suc n) whole)
+below_next n m [] next more e b h = tt
+below_next zero m (x ∷ whole) next more e b h =
+    let same : next ≡ x = cc in
+    (subst (λ (r : Registers). r.address < m) same h, below_nothing m whole)
+below_next (suc n) m (x ∷ whole) next more e b h = (b.0, below_next n m whole next more e b.1 h)
+
+above_last : (last : Option ℕ) (m n : ℕ) → is_above last m ≡ true → last ≡ Some n → n < m
+above_last None m n t e = absurd (cc)
+above_last (Some last) m n t e = let same : last ≡ n = cc in let h : last < m = ltb-true last m t in omega arith
+
+follows_last : (last : Option ℕ) (m n : ℕ) → follows last m ≡ true → last ≡ Some n → n < m + 1
+follows_last None m n t e = absurd (cc)
+follows_last (Some last) m n t e = let same : last ≡ n = cc in let h : last ≤ m = leb-true last m t in omega arith
 
 -- The invariant of the walk over the sequence that begins at `place`.
 pub record OnWay (coding : Coding) (lengths bytes : List ℕ) (place : ℕ) (whole : List Registers) (left : List ℕ) (r : Registers) (count : ℕ)
-    (due : Due) (kept : List Kept) : Type 0 where
+    (last : Option ℕ) (due : Due) (kept : List Kept) : Type 0 where
   pub on : length left + place ≤ length bytes
   pub behind : left ≡ drop (length bytes - length left) bytes
   pub others : sequences_from coding whole r (operations coding.opcode_base lengths left) ≡ sequences coding
@@ -57,14 +92,15 @@ pub record OnWay (coding : Coding) (lengths bytes : List ℕ) (place : ℕ) (who
   pub states : AreKept coding lengths bytes whole kept
   pub begins : Begins count kept
   pub low : (j : ℕ) (d : Kept) → j < length kept → (get_or kept j d).index < count
-  pub first : FirstDue due kept
+  pub first : FirstDue last due kept
+  pub up_to : AreUpTo last count whole
 
 pub way_sets : (coding : Coding) (lengths bytes : List ℕ) (place : ℕ) (whole : List Registers) (left : List ℕ) (r : Registers) (count : ℕ)
-    (due : Due) (kept : List Kept) (rest : List ℕ) (op : LineOp) (next : Registers)
-    → OnWay coding lengths bytes place whole left r count due kept → op_at coding.opcode_base lengths left ≡ Ok (op, rest)
+    (last : Option ℕ) (due : Due) (kept : List Kept) (rest : List ℕ) (op : LineOp) (next : Registers)
+    → OnWay coding lengths bytes place whole left r count last due kept → op_at coding.opcode_base lengths left ≡ Ok (op, rest)
     → Sets ≡ effect_of op → Some next ≡ after_op coding op r
-    → OnWay coding lengths bytes place whole rest next count due kept
-way_sets coding lengths bytes place whole left r count due kept rest op next w read is after =
+    → OnWay coding lengths bytes place whole rest next count last due kept
+way_sets coding lengths bytes place whole left r count last due kept rest op next w read is after =
     let h : length rest + 1 ≤ length left = (op_shortens coding.opcode_base lengths left).shorter op rest read in
     let b : rest ≡ drop (length left - length rest) left = (op_shortens coding.opcode_base lengths left).behind op rest read in
     let others : List Sequence = sequences coding (operations coding.opcode_base lengths rest) in
@@ -86,6 +122,7 @@ way_sets coding lengths bytes place whole left r count due kept rest op next w r
       begins = w.begins;
       low = w.low;
       first = w.first;
+      up_to = w.up_to;
     }
 
 -- One more state, whose row isn't before another's.
@@ -125,39 +162,42 @@ next_of : (n : ℕ) (l : List Registers) (x : Registers) (xs : List Registers) �
 next_of n l x xs e = grind (arith, common_steps, length-drop n l, drop-drop 1 n l)
 
 -- One more state, if one is due.
-pub record KeptMore (coding : Coding) (lengths bytes : List ℕ) (whole : List Registers) (count : ℕ) (due : Due)
+pub record KeptMore (coding : Coding) (lengths bytes : List ℕ) (whole : List Registers) (count : ℕ) (last : Option ℕ) (due : Due)
     (new : List Kept) : Type 0 where
   pub states : AreKept coding lengths bytes whole new
   pub begins : Begins (count + 1) new
   pub low : (j : ℕ) (d : Kept) → j < length new → (get_or new j d).index < count + 1
-  pub first : FirstDue due new
+  pub first : FirstDue last due new
 
 begins_more : (count : ℕ) (due : Due) (kept : List Kept) (k : Kept) → k.index ≡ count → Begins count kept
     → Begins (count + 1) (kept ++ k ∷ [])
 begins_more count due [] k e b = record { none = λ h. absurd (omega arith); first = λ d h. e ∙ b.none refl }
 begins_more count due (x ∷ kept) k e b = record { none = λ h. absurd (omega arith); first = λ d h. b.first d (omega arith) }
 
-some_due : (due : Due) (kept : List Kept) (k : Kept) → FirstDue due (kept ++ k ∷ [])
-some_due due [] k = tt
-some_due due (x ∷ kept) k = tt
+some_due : (last : Option ℕ) (due : Due) (kept : List Kept) (k : Kept) → FirstDue last due (kept ++ k ∷ [])
+some_due last due [] k = tt
+some_due last due (x ∷ kept) k = tt
 
-begins_on : (count : ℕ) (due next : Due) (kept : List Kept) (k : Kept) → is_due due k ≡ false → FirstDue due kept → Begins count kept
-    → Begins (count + 1) kept × FirstDue next kept
-begins_on count due next [] k t first b =
-    let now : nat_le due.row k.index ≡ true = grind (arith, nat_tests, first) in
-    absurd (cc (sym (ap (λ (x : Bool). x || nat_le due.place k.place) now) ∙ t))
-begins_on count due next (x ∷ kept) k t first b =
+begins_on : (count : ℕ) (last then : Option ℕ) (due next : Due) (kept : List Kept) (k : Kept)
+    → (is_due due k && is_above last k.address) ≡ false → FirstDue last due kept → Begins count kept
+    → Begins (count + 1) kept × FirstDue then next kept
+begins_on count last then due next [] k t first b =
+    let now : nat_le due.row k.index ≡ true = grind (arith, nat_tests, first.1) in
+    absurd (cc (sym (ap (λ (x : Bool). (x || nat_le due.place k.place) && is_above last k.address) now
+    ∙ ap (λ (o : Option ℕ). is_above o k.address) first.0) ∙ t))
+begins_on count last then due next (x ∷ kept) k t first b =
     (record { none = λ h. absurd (omega arith); first = λ d h. b.first d (omega arith) }, tt)
 
-more_kept : (coding : Coding) (lengths bytes : List ℕ) (whole : List Registers) (count : ℕ) (kept new : List Kept) (due next : Due)
-    (k : Kept)
-    → (test : Bool) → is_due due k ≡ test → new ≡ cond test (kept ++ k ∷ []) kept → k.index ≡ count
-    → IsBefore coding lengths bytes whole count k
+more_kept : (coding : Coding) (lengths bytes : List ℕ) (whole : List Registers) (count : ℕ) (kept new : List Kept)
+    (last then : Option ℕ) (due next : Due) (k : Kept)
+    → (test : Bool) → (is_due due k && is_above last k.address) ≡ test → new ≡ cond test (kept ++ k ∷ []) kept → k.index ≡ count
+    → (is_above last k.address ≡ true → IsBefore coding lengths bytes whole count k)
     → AreKept coding lengths bytes whole kept → Begins count kept → ((j : ℕ) (d : Kept) → j < length kept → (get_or kept j d).index < count)
-    → FirstDue due kept → KeptMore coding lengths bytes whole count next new
-more_kept coding lengths bytes whole count kept new due next k true t e n b a begins low first =
-    subst (KeptMore coding lengths bytes whole count next) (sym e) (record {
-      states = kept_snoc coding lengths bytes whole kept k a (subst (λ (m : ℕ). IsBefore coding lengths bytes whole m k) (sym n) b)
+    → FirstDue last due kept → KeptMore coding lengths bytes whole count then next new
+more_kept coding lengths bytes whole count kept new last then due next k true t e n b a begins low first =
+    subst (KeptMore coding lengths bytes whole count then next) (sym e) (record {
+      states = kept_snoc coding lengths bytes whole kept k a
+          (subst (λ (m : ℕ). IsBefore coding lengths bytes whole m k) (sym n) (b (and_parts (is_due due k) (is_above last k.address) t).1))
           (λ j d h. subst (λ (m : ℕ). (get_or kept j d).index < m) (sym n) (low j d h));
       begins = begins_more count due kept k n begins;
       low = λ j d h. ⊎_elim
@@ -168,11 +208,11 @@ more_kept coding lengths bytes whole count kept new due next k true t e n b a be
           subst (λ (x : Kept). x.index < count + 1) (sym (get_or_push kept k d j (omega (arith, length-append kept (k ∷ []), h, ge))))
           (omega (arith, n)))
           (cases_lt j (length kept));
-      first = some_due next kept k;
+      first = some_due then next kept k;
     })
-more_kept coding lengths bytes whole count kept new due next k false t e n b a begins low first =
-    let on = begins_on count due next kept k t first begins in
-    subst (KeptMore coding lengths bytes whole count next) (sym e) (record {
+more_kept coding lengths bytes whole count kept new last then due next k false t e n b a begins low first =
+    let on = begins_on count last then due next kept k t first begins in
+    subst (KeptMore coding lengths bytes whole count then next) (sym e) (record {
       states = a;
       begins = on.0;
       low = λ j d h. let l : (get_or kept j d).index < count = low j d h in omega arith;
@@ -180,14 +220,14 @@ more_kept coding lengths bytes whole count kept new due next k false t e n b a b
     })
 
 pub way_appends : (coding : Coding) (lengths bytes : List ℕ) (place : ℕ) (whole : List Registers) (left : List ℕ) (r : Registers)
-    (count : ℕ) (due : Due) (kept : List Kept) (rest : List ℕ) (op : LineOp) (next present : Registers)
+    (count : ℕ) (last : Option ℕ) (due : Due) (kept : List Kept) (rest : List ℕ) (op : LineOp) (next present : Registers)
     (new : List Kept) (then : Due) (k : Kept)
-    → OnWay coding lengths bytes place whole left r count due kept → op_at coding.opcode_base lengths left ≡ Ok (op, rest)
+    → OnWay coding lengths bytes place whole left r count last due kept → op_at coding.opcode_base lengths left ≡ Ok (op, rest)
     → Appends ≡ effect_of op → Some next ≡ after_op coding op r
     → present ≡ after_row next → k ≡ record { place = length bytes - length left; index = count; registers = r; address = next.address }
-    → new ≡ kept_more due k kept
-    → OnWay coding lengths bytes place whole rest present (count + 1) then new
-way_appends coding lengths bytes place whole left r count due kept rest op next present new then k w read is after p kis e =
+    → follows last next.address ≡ true → new ≡ kept_more due last k kept
+    → OnWay coding lengths bytes place whole rest present (count + 1) (Some next.address) then new
+way_appends coding lengths bytes place whole left r count last due kept rest op next present new then k w read is after p kis follow e =
     let h : length rest + 1 ≤ length left = (op_shortens coding.opcode_base lengths left).shorter op rest read in
     let b : rest ≡ drop (length left - length rest) left = (op_shortens coding.opcode_base lengths left).behind op rest read in
     let on : length left + place ≤ length bytes = w.on in
@@ -200,16 +240,21 @@ way_appends coding lengths bytes place whole left r count due kept rest op next 
     ∙ sym (rows_step coding r lengths left rest op read) in
     let here : drop count whole ≡ next ∷ more = sym (step ∙ w.rows) in
     let tail : (count < length whole) × (more ≡ drop (count + 1) whole) = next_of count whole next more here in
-    let state : IsBefore coding lengths bytes whole count
-    (record { place = length bytes - length left; index = count; registers = r; address = next.address }) = record {
+    let state : is_above last next.address ≡ true → IsBefore coding lengths bytes whole count
+    (record { place = length bytes - length left; index = count; registers = r; address = next.address }) = λ above. record {
       within = omega arith;
       some = tail.0;
       follow = ap (λ (l : List ℕ). rows_from coding r (operations coding.opcode_base lengths l)) (sym w.behind) ∙ w.rows;
       address = ap (λ (l : List Registers). first_address l 0) here;
+      above = below_all next.address (take count whole)
+          (up_to_below last count next.address whole w.up_to (λ n. above_last last next.address n above));
     } in
-    let kept_now : KeptMore coding lengths bytes whole count then new =
-    more_kept coding lengths bytes whole count kept new due then k (is_due due k) refl e (ap (λ (x : Kept). x.index) kis)
-    (subst (IsBefore coding lengths bytes whole count) (sym kis) state) w.states w.begins w.low w.first in
+    let kept_now : KeptMore coding lengths bytes whole count (Some next.address) then new =
+    more_kept coding lengths bytes whole count kept new last (Some next.address) due then k (is_due due k && is_above last k.address) refl e
+    (ap (λ (x : Kept). x.index) kis)
+    (subst (λ (x : Kept). is_above last x.address ≡ true → IsBefore coding lengths bytes whole count x) (sym kis) state)
+    w.states w.begins w.low w.first in
+    let one : suc count ≡ count + 1 = omega arith in
     record {
       on = omega arith;
       behind = twice bytes left rest (omega arith) (omega arith) w.behind b;
@@ -226,11 +271,14 @@ way_appends coding lengths bytes place whole left r count due kept rest op next 
       begins = kept_now.begins;
       low = kept_now.low;
       first = kept_now.first;
+      up_to = subst (λ (n : ℕ). AllBelow (next.address + 1) (take n whole)) one
+          (below_next count (next.address + 1) whole next more here
+          (up_to_below last count (next.address + 1) whole w.up_to (λ n. follows_last last next.address n follow)) (omega arith));
     }
 
 -- The sequence ends here.
 pub record Ended (coding : Coding) (lengths bytes : List ℕ) (place : ℕ) (whole : List Registers) (end next count : ℕ)
-    (kept : List Kept) : Type 0 where
+    (kept : List Kept) (rest : List ℕ) : Type 0 where
   pub sequence : sequences coding
       (operations coding.opcode_base lengths (drop place bytes)) ≡ record { rows = whole; end = end } ∷ sequences coding
       (operations coding.opcode_base lengths (drop next bytes))
@@ -238,13 +286,14 @@ pub record Ended (coding : Coding) (lengths bytes : List ℕ) (place : ℕ) (who
   pub begins : Begins (length whole) kept
   pub counted : count ≡ length whole
   pub on : (place < next) × (next ≤ length bytes)
+  pub behind : rest ≡ drop next bytes
 
 pub way_ends : (coding : Coding) (lengths bytes : List ℕ) (place : ℕ) (whole : List Registers) (left : List ℕ) (r : Registers) (count : ℕ)
-    (due : Due) (kept : List Kept) (rest : List ℕ) (op : LineOp) (next : Registers)
-    → OnWay coding lengths bytes place whole left r count due kept → op_at coding.opcode_base lengths left ≡ Ok (op, rest)
+    (last : Option ℕ) (due : Due) (kept : List Kept) (rest : List ℕ) (op : LineOp) (next : Registers)
+    → OnWay coding lengths bytes place whole left r count last due kept → op_at coding.opcode_base lengths left ≡ Ok (op, rest)
     → Ends ≡ effect_of op → Some next ≡ after_op coding op r
-    → Ended coding lengths bytes place whole next.address (length bytes - length rest) count kept
-way_ends coding lengths bytes place whole left r count due kept rest op next w read is after =
+    → Ended coding lengths bytes place whole next.address (length bytes - length rest) count kept rest
+way_ends coding lengths bytes place whole left r count last due kept rest op next w read is after =
     let h : length rest + 1 ≤ length left = (op_shortens coding.opcode_base lengths left).shorter op rest read in
     let b : rest ≡ drop (length left - length rest) left = (op_shortens coding.opcode_base lengths left).behind op rest read in
     let on : length left + place ≤ length bytes = w.on in
@@ -270,30 +319,14 @@ way_ends coding lengths bytes place whole left r count due kept rest op next w r
       begins = subst (λ (n : ℕ). Begins n kept) all w.begins;
       counted = all;
       on = (omega arith, omega arith);
+      behind = behind;
     }
 
-pub way_stops : (coding : Coding) (lengths bytes : List ℕ) (place : ℕ) (whole : List Registers) (left : List ℕ) (r : Registers) (count : ℕ)
-    (due : Due) (kept : List Kept) (rest : List ℕ) (op : LineOp)
-    → OnWay coding lengths bytes place whole left r count due kept → op_at coding.opcode_base lengths left ≡ Ok (op, rest)
-    → None ≡ after_op coding op r
-    → sequences coding (operations coding.opcode_base lengths (drop place bytes)) ≡ []
-way_stops coding lengths bytes place whole left r count due kept rest op w read after =
-    sym w.others ∙ sequences_step coding whole r lengths left rest op read
-    ∙ sym (ap (λ (o : Option Registers). sequences_behind (λ r. sequences_from coding whole r (operations coding.opcode_base lengths rest))
-    (sequences coding (operations coding.opcode_base lengths rest)) whole (effect_of op) o) after)
-
-pub way_gap : (coding : Coding) (lengths bytes : List ℕ) (place : ℕ) (whole : List Registers) (left : List ℕ) (r : Registers) (count : ℕ)
-    (due : Due) (kept : List Kept) (gap : Gap)
-    → OnWay coding lengths bytes place whole left r count due kept → op_at coding.opcode_base lengths left ≡ Err gap
-    → sequences coding (operations coding.opcode_base lengths (drop place bytes)) ≡ []
-way_gap coding lengths bytes place whole left r count due kept gap w read =
-    sym w.others ∙ sequences_none coding whole r _ (operations_gap coding.opcode_base lengths left gap read)
-
 pub way_out : (coding : Coding) (lengths bytes : List ℕ) (place : ℕ) (whole : List Registers) (left : List ℕ) (r : Registers) (count : ℕ)
-    (due : Due) (kept : List Kept)
-    → OnWay coding lengths bytes place whole left r count due kept → length left ≡ 0
+    (last : Option ℕ) (due : Due) (kept : List Kept)
+    → OnWay coding lengths bytes place whole left r count last due kept → length left ≡ 0
     → sequences coding (operations coding.opcode_base lengths (drop place bytes)) ≡ []
-way_out coding lengths bytes place whole left r count due kept w e =
+way_out coding lengths bytes place whole left r count last due kept w e =
     sym w.others ∙ sequences_none coding whole r _ (operations_end coding.opcode_base lengths left e)
 
 -- The address of the first row, by the states.
@@ -306,11 +339,12 @@ low_is coding lengths bytes (r ∷ rows) [] end a b = let h : length (r ∷ rows
 low_is coding lengths bytes (r ∷ rows) (k ∷ kept) end a b =
     sym (sym (ap (λ (n : ℕ). first_address (drop n (r ∷ rows)) 0) (b.first k (omega arith))) ∙ (a.each 0 k (omega arith)).address)
 
-pub is_kept : (coding : Coding) (lengths bytes : List ℕ) (place end next low count : ℕ) (kept : List Kept) (k : KeptSequence)
-    → Ended coding lengths bytes place (rows_at_place coding lengths bytes (start coding) place) end next count kept
+pub is_kept : (coding : Coding) (lengths bytes : List ℕ) (place end next low count : ℕ) (kept : List Kept) (rest : List ℕ)
+    (k : KeptSequence)
+    → Ended coding lengths bytes place (rows_at_place coding lengths bytes (start coding) place) end next count kept rest
     → k.place ≡ place → k.end ≡ end → k.low ≡ low → low ≡ low_of kept end → k.rows ≡ count → k.kept.items ≡ kept
     → IsKept coding lengths bytes k
-is_kept coding lengths bytes place end next low count kept k w p e l m n s =
+is_kept coding lengths bytes place end next low count kept rest k w p e l m n s =
     let rows : ℕ → List Registers = λ p. rows_at_place coding lengths bytes (start coding) p in
     record {
       states = subst (λ (p : ℕ). AreKept coding lengths bytes (rows p) k.kept.items) (sym p)

@@ -1,6 +1,6 @@
 -- The answers of a kept line table at an address, and the unit at an offset.
 use Rattle.std.proofs.Common.{◌≡◌, ◌∙◌, ◌≤◌, ◌<◌, ◌-◌, ◌==◌, ℕ, zero, suc, Bool, true, List, [], ◌∷◌, Option, Some, None, refl, sym, ap}
-use Rattle.std.proofs.Common.{arith, map, option_map, subst, length, get_or}
+use Rattle.std.proofs.Common.{arith, map, option_map, subst, length, get_or, ◌⊎◌, inl, inr}
 use Rattle.std.specs.Prelude.{All, find, slice_get, option_and_then, filter_map, nat_lt}
 use Rattle.std.proofs.lemmas.Option.{slice_get-map, slice_get_read, slice_get_past, same_Some}
 use Rattle.std.proofs.lemmas.Bool.Decides.{nat_tests}
@@ -11,28 +11,27 @@ use Rattle.answer_runs.specs.AddressRanges.{holds_address}
 use Rattle.answer_runs.specs.FirstRanges.{first_range}
 use Rattle.answer_runs.proofs.FoundFirst.{found_first}
 use Rattle.table_core.specs.DebugUnits.{Walked, walked}
-use Rattle.line_rewrite.specs.declared.found.FoundRows.{FoundRows}
 use Rattle.line_rewrite.specs.declared.kept.Kept.{Kept}
 use Rattle.line_rewrite.specs.declared.kept.KeptSequence.{KeptSequence}
 use Rattle.line_rewrite.specs.declared.near.NearRows.{NearRows}
+use Rattle.line_rewrite.specs.declared.registers.Registers.{Registers}
 use Rattle.line_rewrite.specs.declared.sequence_index.Place.{Place}
 use Rattle.line_rewrite.specs.declared.sequence_index.SequenceIndex.{SequenceIndex}
 use Rattle.line_rewrite.specs.declared.unit.Unit as kept
 use Rattle.line_rewrite.specs.LineMachine.{Sequence, start, sound_from, in_force}
 use Rattle.line_rewrite.specs.Operations.{operations, is_whole}
-use Rattle.line_rewrite.specs.LineAnswers.{row_said, said_at}
+use Rattle.line_rewrite.specs.LineAnswers.{LineSaid, line_units, row_said, said_at}
 use Rattle.line_rewrite.specs.LineUnits.{LineUnit, unit_in}
 use Rattle.line_rewrite.specs.FilePaths.{file_path, path_at}
 use Rattle.line_rewrite.specs.KeptUnits.{told_unit}
 use Rattle.line_rewrite.specs.Keeping.{AreKept, Begins}
-use Rattle.line_rewrite.specs.SequenceIndex.{Numbered, all_numbered, kept_range, place_of, IsIndexOf, numbered_at, unit_sequence, IsFound, IsSame}
+use Rattle.line_rewrite.specs.SequenceIndex.{all_numbered, kept_range, place_of, IsIndexOf, numbered_at, unit_sequence, AreRowsAt}
 use Rattle.line_rewrite.specs.SequenceViews.{kept_at}
 use Rattle.line_rewrite.specs.Tables.{LineSections, line_at}
 use Rattle.line_rewrite.specs.UnitLists.{place_range, AreLines}
-use Rattle.line_rewrite.specs.NearRows.{AreEnough, AreNear, Reaches}
-use Rattle.line_rewrite.specs.Walks.{Ascends, none_between}
+use Rattle.line_rewrite.specs.NearRows.{AreNear, IsNear, Reaches, said_by}
+use Rattle.line_rewrite.specs.Walks.{Ascends}
 use Rattle.line_rewrite.proofs.Ascending.{Follow, AllFollow, sequences_follow, follow_ascends}
-use Rattle.line_rewrite.proofs.Between.{rows_alike}
 use Rattle.line_rewrite.proofs.FirstSequence.{IsUnitKept, numbered_said, said_found, Stands, found_stands}
 use Rattle.line_rewrite.proofs.LineFaults.{units_are, there_at}
 
@@ -134,73 +133,14 @@ module _ (us : List kept.Unit) (index : SequenceIndex) (is : IsIndexOf us index)
         same_sequence : here.x.sequence ≡ k
         same_sequence = same_Some here.x.sequence k (sym there ∙ on)
 
-        pub found_there : (f : FoundRows) → f.unit ≡ p.unit → f.rows.items ≡ in_force a (unit_sequence u k).rows → IsFound us a f
-        found_there f n rows = record {
+        pub found_there : (rows : List Registers) → rows ≡ in_force a (unit_sequence u k).rows → AreRowsAt us a p.unit rows
+        found_there rows are = record {
           first = here.x;
           found = here.is;
-          number = ap (λ (q : Place). q.unit) here.gives ∙ sym n;
-          unit = ap (slice_get us) n ∙ unit_here;
-          rows = rows ∙ λ i. in_force a (unit_sequence (sym same_unit i) (sym same_sequence i)).rows;
+          number = ap (λ (q : Place). q.unit) here.gives;
+          unit = unit_here;
+          rows = are ∙ λ i. in_force a (unit_sequence (sym same_unit i) (sym same_sequence i)).rows;
         }
-
--- one sequence at two addresses
-
-pub same_there : (us : List kept.Unit) (index : SequenceIndex) (is : IsIndexOf us index) (a b : ℕ) (o r : Option Place) (p q : Place)
-    (u : kept.Unit) (k : KeptSequence)
-    → o ≡ place_at us index is a → o ≡ Some p → r ≡ place_at us index is b → r ≡ Some q → p.unit ≡ q.unit → p.sequence ≡ q.sequence
-    → slice_get us p.unit ≡ Some u → slice_get u.sequences.items p.sequence ≡ Some k
-    → in_force a (unit_sequence u k).rows ≡ in_force b (unit_sequence u k).rows → IsSame us a b
-same_there us index is a b o r p q u k oa op rb rq n m at on same =
-    let and_parts : p ≡ q = λ i. record { unit = n i; sequence = m i } in
-    let x = here us index is a o p oa op in
-    let y = here us index is b r p rb (rq ∙ ap Some (sym and_parts)) in
-    let xu = same_unit us index is a o p oa op u at in
-    let yu = same_unit us index is b r p rb (rq ∙ ap Some (sym and_parts)) u at in
-    let xk = same_sequence us index is a o p oa op u at k on in
-    let yk = same_sequence us index is b r p rb (rq ∙ ap Some (sym and_parts)) u at k on in
-    let place = x.gives ∙ sym y.gives in
-    let one : x.x ≡ y.x = λ i. record {
-      number = ap (λ (q : Place). q.unit) place i;
-      index = ap (λ (q : Place). q.sequence) place i;
-      unit = (xu ∙ sym yu) i;
-      sequence = (xk ∙ sym yk) i;
-    } in
-    record {
-      first = x.x;
-      at = x.is;
-      there = y.is ∙ ap Some (sym one);
-      rows = (λ i. in_force a (unit_sequence (xu i) (xk i)).rows) ∙ same ∙ (λ i. in_force b (unit_sequence (sym xu i) (sym xk i)).rows);
-    }
-
--- remembered rows of the sequence that an index finds
-
-module _ (us : List kept.Unit) (index : SequenceIndex) (is : IsIndexOf us index) (near : NearRows) (are : AreNear us near) where
-  module _ (a : ℕ) (o : Option Place) (p : Place) (e : o ≡ place_at us index is a) (some : o ≡ Some p) (reach : Reaches near p a) where
-    abbrev pub first : Numbered
-    first = (here us index is a o p e some).x
-
-    pub near_enough : AreEnough near.low near.high near.rows.items (unit_sequence first.unit first.sequence).rows
-    near_enough =
-        are first.unit first.sequence (ap (slice_get us) reach.unit ∙ unit_here us index is a o p e some)
-        (ap (slice_get first.unit.sequences.items) reach.sequence ∙ sequence_here us index is a o p e some)
-
-    pub found_near : (f : FoundRows) → f.unit ≡ p.unit → f.rows.items ≡ in_force a near.rows.items → IsFound us a f
-    found_near f n rows =
-        found_there us index is a o p e some first.unit (unit_here us index is a o p e some) first.sequence
-        (sequence_here us index is a o p e some) f n (rows ∙ near_enough.same a reach.low reach.high)
-
-  pub same_near : (a b : ℕ) (o r : Option Place) (p q : Place) → o ≡ place_at us index is a → o ≡ Some p → r ≡ place_at us index is b
-      → r ≡ Some q → Reaches near p a → Reaches near q b → a ≤ b → none_between a b near.rows.items ≡ true → IsSame us a b
-  same_near a b o r p q oa op rb rq at_a at_b ordered none =
-      let x = here us index is a o p oa op in
-      let enough = near_enough a o p oa op at_a in
-      same_there us index is a b o r p q x.x.unit x.x.sequence oa op rb rq (sym at_a.unit ∙ at_b.unit) (sym at_a.sequence ∙ at_b.sequence)
-      (unit_here us index is a o p oa op) (sequence_here us index is a o p oa op)
-      (sym (enough.same a at_a.low at_a.high) ∙ rows_alike a b near.rows.items ordered enough.ascend none
-      ∙ enough.same b (to near.low a b at_a.low ordered) at_b.high)
-    where
-      to : (low a b : ℕ) → low ≤ a → a ≤ b → low ≤ b
-      to low a b h k = omega arith
 
 -- items of lists, as they are looked up
 
@@ -229,6 +169,15 @@ module _ (u : kept.Unit) (k : KeptSequence) (i : ℕ) (at : slice_get u.sequence
   pub begins_there : Begins (length (unit_sequence u k).rows) states
   begins_there = subst (Begins (length (unit_sequence u k).rows)) (sym es) (sequence_kept u k i at).begins
 
+-- The same rows are in force at another address for which the remembered ones decide.
+pub said_alike : (s : LineSections) (near : NearRows) (a x : ℕ) → IsNear s near → Reaches near a → a ≤ x → x ≤ near.high
+    → in_force x near.rows.items ≡ in_force a near.rows.items → line_at s x ≡ line_at s a
+said_alike s near a x is there from to same =
+    is.said x (up_to near.low a x there.low from) to ∙ ap (said_by s near.unit) same ∙ sym (is.said a there.low there.high)
+  where
+    up_to : (low a x : ℕ) → low ≤ a → a ≤ x → low ≤ x
+    up_to low a x h k = omega arith
+
 -- the answer at an address
 
 module _ (s : LineSections) (us : List kept.Unit) (index : SequenceIndex) (offsets : FirstRange) (are : AreLines s us index offsets) where
@@ -240,24 +189,38 @@ module _ (s : LineSections) (us : List kept.Unit) (index : SequenceIndex) (offse
   pub at_none : (a : ℕ) → numbered_at us a ≡ None → line_at s a ≡ None
   at_none a e = says a ∙ ap (option_map (numbered_said s.strings a)) e
 
-  pub unit_found : (a : ℕ) (f : FoundRows) → IsFound us a f → slice_get us f.unit ≡ None → ⊥
-  unit_found a f found n = not_some found.first.unit (sym found.unit ∙ n)
+  unit_told : (n : ℕ) → slice_get (line_units s.strings s.line) n ≡ option_map (told_unit s.strings) (slice_get us n)
+  unit_told n =
+      ap (λ (l : List LineUnit). slice_get l n) (units_are s.strings s.line us are.units) ∙ slice_get-map (told_unit s.strings) us n
 
-  pub at_some : (a : ℕ) (f : FoundRows) (u : kept.Unit) → IsFound us a f → slice_get us f.unit ≡ Some u
-      → line_at s a ≡ Some (record { unit = f.unit; rows = filter_map (row_said (told_unit s.strings u)) f.rows.items })
-  at_some a f u found at =
-      let same : found.first.unit ≡ u = same_Some found.first.unit u (sym found.unit ∙ at) in
+  pub at_some : (a number : ℕ) (rows : List Registers) → AreRowsAt us a number rows → line_at s a ≡ said_by s number rows
+  at_some a number rows found =
+      let say : ℕ → List Registers → Option LineUnit → Option LineSaid =
+      λ n l. option_map (λ u. record { unit = n; rows = filter_map (row_said u) l }) in
       says a ∙ ap (option_map (numbered_said s.strings a)) found.found
-      ∙ (λ i. Some (record {
-        unit = found.number i;
-        rows = filter_map (row_said (told_unit s.strings (same i))) (sym found.rows i);
-      }))
+      ∙ (λ i. say (found.number i) (sym found.rows i) (Some (told_unit s.strings found.first.unit)))
+      ∙ ap (say number rows) (sym (unit_told number ∙ ap (option_map (told_unit s.strings)) found.unit))
 
-  pub alike_there : (a b : ℕ) → IsSame us a b → line_at s a ≡ line_at s b
-  alike_there a b same =
-      says a ∙ ap (option_map (numbered_said s.strings a)) same.at
-      ∙ (λ i. Some (record { unit = same.first.number; rows = filter_map (row_said (told_unit s.strings same.first.unit)) (same.rows i) }))
-      ∙ sym (says b ∙ ap (option_map (numbered_said s.strings b)) same.there)
+  -- remembered rows
+  pub near_said : (old new : NearRows) → IsNear s old → (new ≡ old) ⊎ AreNear us new → IsNear s new
+  near_said old new was (inl same) = subst (IsNear s) (sym same) was
+  near_said old new was (inr found) = record {
+    ascend = found.ascend;
+    said = λ x low high. at_some x new.unit (in_force x new.rows.items) (found.found x low high);
+  }
+
+  pub said_there : (near : NearRows) (a : ℕ) (u : Option kept.Unit) (rows : List Registers) → IsNear s near → Reaches near a
+      → slice_get us near.unit ≡ u → rows ≡ in_force a near.rows.items
+      → option_map (λ v. record { unit = near.unit; rows = filter_map (row_said (told_unit s.strings v)) rows }) u ≡ line_at s a
+  said_there near a None rows is reach at e =
+      sym (is.said a reach.low reach.high
+      ∙ ap (option_map (λ u. record { unit = near.unit; rows = filter_map (row_said u) (in_force a near.rows.items) }))
+      (unit_told near.unit ∙ ap (option_map (told_unit s.strings)) at))
+  said_there near a (Some u) rows is reach at e =
+      ap (λ (l : List Registers). Some (record { unit = near.unit; rows = filter_map (row_said (told_unit s.strings u)) l })) e
+      ∙ sym (is.said a reach.low reach.high
+      ∙ ap (option_map (λ u. record { unit = near.unit; rows = filter_map (row_said u) (in_force a near.rows.items) }))
+      (unit_told near.unit ∙ ap (option_map (told_unit s.strings)) at))
 
   -- the unit at an offset
 

@@ -1,6 +1,6 @@
 -- Whether a program is sound, with one more operation.
 use Rattle.std.proofs.Common.{◌≡◌, ◌<◌, ◌≤◌, ◌+◌, ◌&&◌, ℕ, List, [], ◌∷◌, zero, suc, refl, arith, sym, ◌∙◌, ap, Ok, Err, length, Option}
-use Rattle.std.proofs.Common.{Some, None, is_none, is_some, not, Bool, true, false, nat_lt}
+use Rattle.std.proofs.Common.{Some, None, is_none, Bool, true, false, nat_lt, drop, length-drop}
 use Rattle.std.proofs.lemmas.Bool.Decides.{nat_tests}
 use Rattle.rb_bytes.specs.declared.gap.Gap.{Gap}
 use Rattle.line_rewrite.specs.declared.coding.Coding.{Coding}
@@ -8,7 +8,6 @@ use Rattle.line_rewrite.specs.declared.registers.Registers.{Registers}
 use Rattle.line_rewrite.specs.declared.operation.LineOp.{LineOp}
 use Rattle.line_rewrite.specs.declared.effect.Effect.{Effect}
 use Rattle.line_rewrite.specs.declared.effect.Effect.TheVariants.{Appends, Ends, Sets}
-use Rattle.rb_bytes.specs.Readers.{Reading, whole_reading}
 use Rattle.line_rewrite.specs.SoundPrograms.{is_sound}
 use Rattle.line_rewrite.specs.Operations.{op_at, operations, is_whole, whole_within, whole_behind, Found}
 use Rattle.line_rewrite.specs.LineMachine.{after_op, after_row, effect_of, start, sound_from, sound_behind, follows}
@@ -164,26 +163,30 @@ sound_out coding files last r lengths [] w e inv =
     ∙ ap (sound_from coding files last r) (operations_end coding.opcode_base lengths [] refl) ∙ end_sound coding files last r) ∙ inv
 sound_out coding files last r lengths (b ∷ bytes) w e inv = absurd (omega arith)
 
-pub none_result : (last : Option ℕ) (t : Bool) → is_some last ≡ not t → t ≡ is_none last
-none_result None true e = refl
-none_result None false e = absurd (cc)
-none_result (Some a) true e = absurd (cc)
-none_result (Some a) false e = refl
-
 and_comm : (a b : Bool) → (a && b) ≡ (b && a)
 and_comm true true = refl
 and_comm true false = refl
 and_comm false true = refl
 and_comm false false = refl
 
-pub sound_starts : (coding : Coding) (files : ℕ) (lengths bytes : List ℕ) (cursor : Reading) (present : Registers) →
-    cursor ≡ whole_reading bytes → present ≡ start coding
-    → (sound_from coding files None present (operations coding.opcode_base lengths cursor.left)
-    && is_whole coding.opcode_base lengths cursor.left) ≡ is_sound coding files lengths bytes
-sound_starts coding files lengths bytes cursor present e p =
-    ap (λ (c : Reading). sound_from coding files None present (operations coding.opcode_base lengths c.left)
-    && is_whole coding.opcode_base lengths c.left) e
-    ∙ ap (λ (r : Registers). sound_from coding files None r (operations coding.opcode_base lengths bytes)
-    && is_whole coding.opcode_base lengths bytes) p
-    ∙ and_comm (sound_from coding files None (start coding) (operations coding.opcode_base lengths bytes))
+-- At the start of a sequence.
+pub sound_starts : (coding : Coding) (files : ℕ) (lengths bytes : List ℕ)
+    → (sound_from coding files None (start coding) (operations coding.opcode_base lengths bytes)
+    && is_whole coding.opcode_base lengths bytes) ≡ is_sound coding files lengths bytes
+sound_starts coding files lengths bytes =
+    and_comm (sound_from coding files None (start coding) (operations coding.opcode_base lengths bytes))
     (is_whole coding.opcode_base lengths bytes)
+
+pub sound_init : (coding : Coding) (files : ℕ) (lengths bytes left : List ℕ) (present : Registers) → left ≡ bytes → present ≡ start coding
+    → (sound_from coding files None present (operations coding.opcode_base lengths left)
+    && is_whole coding.opcode_base lengths left) ≡ is_sound coding files lengths bytes
+sound_init coding files lengths bytes left present e p =
+    (λ i. sound_from coding files None (p i) (operations coding.opcode_base lengths (e i)) && is_whole coding.opcode_base lengths (e i))
+    ∙ sound_starts coding files lengths bytes
+
+pub sound_end : (coding : Coding) (files : ℕ) (lengths bytes : List ℕ) (place : ℕ) → length bytes ≤ place →
+    is_sound coding files lengths (drop place bytes) ≡ true
+sound_end coding files lengths bytes place h =
+    let none : length (drop place bytes) ≡ 0 = omega (arith, length-drop place bytes) in
+    sym (sound_out coding files None (start coding) lengths (drop place bytes) (is_sound coding files lengths (drop place bytes)) none
+    (sound_starts coding files lengths (drop place bytes)))

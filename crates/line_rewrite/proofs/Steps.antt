@@ -1,8 +1,6 @@
 -- Operations one at a time.
-use Rattle.std.proofs.Common.{◌≡◌, ◌<◌, ◌≤◌, ◌+◌, ℕ, List, [], ◌∷◌, zero, suc, ◌-◌, take, refl, arith, sym, ◌∙◌, ap, Ok, Err, length}
-use Rattle.std.proofs.Common.{Option, Some, None, Bool, true, false, cond, nat_le}
-use Rattle.std.proofs.lemmas.Bool.Decides.{nat_tests}
-use Rattle.line_rewrite.specs.Walks.{joined, latest}
+use Rattle.std.proofs.Common.{◌≡◌, ◌<◌, ◌≤◌, ◌+◌, ℕ, List, [], ◌∷◌, zero, suc, refl, arith, sym, ◌∙◌, ap, Ok, Err, length}
+use Rattle.std.proofs.Common.{Option, Some, None}
 use Rattle.rb_bytes.specs.declared.gap.Gap.{Gap}
 use Rattle.line_rewrite.specs.declared.coding.Coding.{Coding}
 use Rattle.line_rewrite.specs.declared.registers.Registers.{Registers}
@@ -106,44 +104,3 @@ module _ (coding : Coding) (r : Registers) (lengths bytes : List ℕ) (whole : L
     pub row_appends : (next : Registers) → Appends ≡ effect_of op → Some next ≡ after_op coding op r
         → whole ≡ next ∷ rows_from coding (after_row next) (operations coding.opcode_base lengths rest)
     row_appends next is after = step_is Appends (Some next) is after
-
--- The rows in force with one more row: `found` are those reached, `n` is the number of rows to come, `whole` is the result
-
-pub take_none : (n : ℕ) → take {A = Registers} n [] ≡ []
-take_none zero = refl
-take_none (suc n) = refl
-
-module _ (found : List Registers) (a n : ℕ) (rows whole : List Registers) (inv : latest found a (take n rows) ≡ whole) where
-  pub found_done : n ≡ 0 → found ≡ whole
-  unfolding latest
-  found_done z = ap (λ (k : ℕ). latest found a (take k rows)) (sym z) ∙ inv
-
-  pub found_none : rows ≡ [] → found ≡ whole
-  unfolding latest
-  found_none none =
-      sym (ap (λ (l : List Registers). latest found a (take n l)) none ∙ ap (latest found a) (take_none n)) ∙ inv
-
-  module _ (next : Registers) (more : List Registers) (some : 0 < n) (are : rows ≡ next ∷ more) where
-    row_more : latest found a (next ∷ take (n - 1) more) ≡ whole
-    row_more =
-        let one : n ≡ suc (n - 1) = omega arith in
-        sym (ap (λ (l : List Registers). latest found a (take n l)) are
-        ∙ ap (λ (k : ℕ). latest found a (take k (next ∷ more))) one)
-        ∙ inv
-
-    pub found_past : a < next.address → found ≡ whole
-    unfolding latest
-    found_past h =
-        let t : nat_le next.address a ≡ false = grind (arith, nat_tests) in
-        ap (λ (b : Bool). cond b (latest (joined found next) a (take (n - 1) more)) found) (sym t) ∙ row_more
-
-    pub found_more : (new rest : List Registers) (left : ℕ) → next.address ≤ a → new ≡ joined found next → rest ≡ more → left ≡ n - 1
-        → latest new a (take left rest) ≡ whole
-    unfolding latest
-    found_more new rest left h e same l =
-        let t : nat_le next.address a ≡ true = grind (arith, nat_tests) in
-        ap (λ (k : ℕ). latest new a (take k rest)) l
-        ∙ ap (λ (l : List Registers). latest new a (take (n - 1) l)) same
-        ∙ ap (λ (l : List Registers). latest l a (take (n - 1) more)) e
-        ∙ ap (λ (b : Bool). cond b (latest (joined found next) a (take (n - 1) more)) found) (sym t)
-        ∙ row_more

@@ -160,7 +160,8 @@ module _ (stmt : Bool) (files : ℕ) where
       does_rows (written_coding stmt) r (rows_ops r u.rows) u.rows (after_rows r u.rows) tail
       (piece_does stmt files r u (opened_fresh stmt u.start u.rows) low piece)
       ∙ ap (λ (l : List LineOp). u.rows ++ rows_from (written_coding stmt) (after_rows r u.rows) l) (sym (append-nil tail))
-      ∙ ap (λ (l : List Registers). u.rows ++ l) (going_rows g us [] (going_on stmt files r u (opened_fresh stmt u.start u.rows) low piece) are)
+      ∙ ap (λ (l : List Registers). u.rows ++ l)
+      (going_rows g us [] (going_on stmt files r u (opened_fresh stmt u.start u.rows) low piece) are)
 
   abbrev after_piece : Registers → Piece → Going
   after_piece r u = record { registers = after_rows r u.rows; end = piece_end u }
@@ -212,7 +213,8 @@ module _ (stmt : Bool) (files : ℕ) where
           (piece_does stmt files g.registers u is.fresh (omega arith) are.0)
           ∙ others whole g.registers (going_on stmt files g.registers u is.fresh (omega arith) are.0) are.2
       by false e others =
-          let tail : List LineOp = program_ops (written_coding stmt) (Some (after_piece (opened (written_coding stmt) u.start u.rows) u)) us in
+          let tail : List LineOp =
+          program_ops (written_coding stmt) (Some (after_piece (opened (written_coding stmt) u.start u.rows) u)) us in
           ap (sequences_from (written_coding stmt) whole g.registers)
           (append_assoc (close_ops g) (open_ops (written_coding stmt) u.start u.rows) tail)
           ∙ close_sequences stmt whole g (open_ops (written_coding stmt) u.start u.rows ++ tail) is

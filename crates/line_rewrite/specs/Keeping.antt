@@ -1,6 +1,6 @@
 -- States of the line number state machine that are kept, to walk a sequence from.
-use Rattle.std.specs.Prelude.{◌≡◌, ◌≤◌, ◌<◌, ◌||◌, ℕ, zero, suc, Bool, false, List, [], ◌∷◌, ◌++◌, nat_le, nat_lt}
-use Rattle.std.specs.Prelude.{if◌then◌else◌, length, drop, slice_index_or}
+use Rattle.std.specs.Prelude.{◌≡◌, ◌≤◌, ◌<◌, ◌||◌, ◌&&◌, ℕ, zero, suc, All, Bool, List, [], ◌∷◌, ◌++◌, nat_le, Option}
+use Rattle.std.specs.Prelude.{if◌then◌else◌, length, drop, take, slice_index_or}
 use Rattle.line_rewrite.specs.declared.coding.Coding.{Coding}
 use Rattle.line_rewrite.specs.declared.registers.Registers.{Registers}
 use Rattle.line_rewrite.specs.declared.kept.Kept.{Kept}
@@ -9,6 +9,7 @@ use Rattle.line_rewrite.specs.declared.line_program.LineProgram.{LineProgram}
 use Rattle.line_rewrite.specs.Operations.{operations}
 use Rattle.line_rewrite.specs.LineMachine.{rows_from}
 use Rattle.line_rewrite.specs.LineAnswers.{first_address}
+use Rattle.line_rewrite.specs.Walks.{is_above}
 
 -- The rows of a sequence from an offset in the program on.
 abbrev pub rows_at_place : Coding → List ℕ → List ℕ → Registers → ℕ → List Registers
@@ -23,12 +24,14 @@ rows_left p left r = rows_from p.coding.now r (operations p.coding.now.opcode_ba
 abbrev pub rows_behind : LineProgram → Kept → List Registers
 rows_behind p k = rows_at_place p.coding.now p.lengths.now p.bytes.now k.registers k.place
 
--- A state before the row with index `i`: the rows from this one on follow from it. There is such a row.
+-- A state before the row with index `i`: the rows from this one on follow from it. There is such a row, and all rows
+-- before it are at lower addresses.
 pub record IsBefore (coding : Coding) (lengths bytes : List ℕ) (rows : List Registers) (i : ℕ) (k : Kept) : Type 0 where
   pub within : k.place ≤ length bytes
   pub some : i < length rows
   pub follow : rows_at_place coding lengths bytes k.registers k.place ≡ drop i rows
   pub address : first_address (drop i rows) 0 ≡ k.address
+  pub above : All (λ r. r.address < k.address) (take i rows)
 
 -- Each state is before the row with its index. The indexes don't fall.
 pub record AreKept (coding : Coding) (lengths bytes : List ℕ) (rows : List Registers) (kept : List Kept) : Type 0 where
@@ -52,16 +55,11 @@ row_at (k ∷ kept) count (suc j) = row_at kept count j
 abbrev pub is_due : Due → Kept → Bool
 is_due due k = nat_le due.row k.index || nat_le due.place k.place
 
--- The states, with this one if it is due.
-abbrev pub kept_more : Due → Kept → List Kept → List Kept
-kept_more due k kept = if is_due due k then kept ++ k ∷ [] else kept
+-- The states, with this one if it is due and its row is above the last one.
+abbrev pub kept_more : Due → Option ℕ → Kept → List Kept → List Kept
+kept_more due last k kept = if is_due due k && is_above last k.address then kept ++ k ∷ [] else kept
 
 -- The address of a sequence's first row, by its states.
 abbrev pub low_of : List Kept → ℕ → ℕ
 low_of [] end = end
 low_of (k ∷ kept) end = k.address
-
--- Whether the rows found have a greater address than the row of a state.
-abbrev pub are_past : List Registers → Kept → Bool
-are_past [] k = false
-are_past (r ∷ found) k = nat_lt k.address r.address

@@ -58,22 +58,18 @@ unit_sequence u k = told_sequence u.header.coding u.header.lengths.items u.progr
 abbrev pub numbered_rows : Numbered → ℕ → List Registers
 numbered_rows x a = in_force a (unit_sequence x.unit x.sequence).rows
 
--- `f` has the rows in force of the first sequence that covers the address.
-pub record IsFound (units : List kept.Unit) (a : ℕ) (f : FoundRows) : Type 0 where
+-- The rows in force of the first sequence that covers the address, and the index of its unit.
+pub record AreRowsAt (units : List kept.Unit) (a n : ℕ) (present : List Registers) : Type 0 where
   pub first : Numbered
   pub found : numbered_at units a ≡ Some first
-  pub number : first.number ≡ f.unit
-  pub unit : slice_get units f.unit ≡ Some first.unit
-  pub rows : f.rows.items ≡ numbered_rows first a
+  pub number : first.number ≡ n
+  pub unit : slice_get units n ≡ Some first.unit
+  pub rows : present ≡ numbered_rows first a
+
+abbrev pub IsFound : List kept.Unit → ℕ → FoundRows → Type 0
+IsFound units a f = AreRowsAt units a f.unit f.rows.items
 
 -- None, if no sequence covers the address.
 abbrev pub AreFound : List kept.Unit → ℕ → Option FoundRows → Type 0
 AreFound units a None = numbered_at units a ≡ None
 AreFound units a (Some f) = IsFound units a f
-
--- The same sequence is the first that covers each of two addresses, and the same rows are in force there.
-pub record IsSame (units : List kept.Unit) (a b : ℕ) : Type 0 where
-  pub first : Numbered
-  pub at : numbered_at units a ≡ Some first
-  pub there : numbered_at units b ≡ Some first
-  pub rows : numbered_rows first a ≡ numbered_rows first b

@@ -1,5 +1,6 @@
 -- Rows, looked at one by one.
-use Rattle.std.specs.Prelude.{◌≤◌, ◌==◌, ℕ, Bool, true, false, List, [], ◌∷◌, ◌++◌, nat_le, nat_lt, if◌then◌else◌}
+use Rattle.std.specs.Prelude.{◌≤◌, ◌==◌, ℕ, Bool, true, List, [], ◌∷◌, ◌++◌, nat_le, nat_lt, if◌then◌else◌}
+use Rattle.std.specs.Prelude.{Option, Some, None}
 use Rattle.line_rewrite.specs.declared.registers.Registers.{Registers}
 
 -- The rows in force after one more row was reached.
@@ -17,8 +18,12 @@ abbrev pub Ascends : ℕ → List Registers → Type 0
 Ascends from [] = Unit {0}
 Ascends from (r ∷ rows) = (from ≤ r.address) × Ascends r.address rows
 
--- Up to the first address above `b`, no address is above `a`.
-unfoldable pub none_between : ℕ → ℕ → List Registers → Bool
-none_between a b [] = true
-none_between a b (r ∷ rows) =
-    if nat_lt b r.address then true else (if nat_lt a r.address then false else none_between a b rows)
+-- The address is above the last row's, if there is a last row.
+abbrev pub is_above : Option ℕ → ℕ → Bool
+is_above None a = true
+is_above (Some last) a = nat_lt last a
+
+-- The address of the first row above `a`.
+unfoldable pub next_above : ℕ → List Registers → Option ℕ
+next_above a [] = None
+next_above a (r ∷ rows) = if nat_lt a r.address then Some r.address else next_above a rows

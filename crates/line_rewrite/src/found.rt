@@ -1,13 +1,16 @@
 // The rows in force at an address.
-ghost use Rattle.std.specs.Prelude.{◌≡◌, IfNone, IfOk, IfSome, None};
+ghost use Rattle.std.specs.Prelude.{◌≡◌, IfNone, IfOk, IfSome, None, OnOk};
+ghost use Rattle.line_rewrite.specs.NearRows.{AreNear};
 ghost use Rattle.line_rewrite.specs.SequenceIndex.{IsIndexOf, AreFound};
 ghost use Rattle.line_rewrite.specs.SequenceViews.{IsViewAt, kept_at};
 
 use crate::line_program::LineProgram;
 use crate::lookup::SequenceView;
+use crate::near::NearRows;
 use crate::registers::Registers;
 use crate::sequence_index::{Place, SequenceIndex};
 use crate::unit::Unit;
+use crate::walk::in_force;
 use std::alloc::{AllocError, Global};
 
 /// The rows in force at an address, in the first sequence that covers it.
@@ -39,22 +42,22 @@ pub(crate) fn view_at(units: &[Unit], place: Place) -> Option<SequenceView<'_>>
 /// The rows in force at an address; none if no sequence covers it.
 pub fn found_rows(
     alloc: Global,
+    near: &mut NearRows,
     units: &[Unit],
     index: &SequenceIndex,
     a: u64,
 ) -> Result<Option<FoundRows>, AllocError>
-    requires { IsIndexOf units.now index.now }
-    ensures { IfOk result (λ o. AreFound units.now a o) }
+    requires index { IsIndexOf units.now index.now }
+    requires near { AreNear units.now near.old }
+    ensures near { OnOk result (AreNear units.now near.new) }
+    ensures found { IfOk result (λ o. AreFound units.now a o) }
 {
-    let Some(place) = index.find(a) else {
+    if !near.reach(alloc, units, index, a)? {
         return Ok(None);
-    };
-    let Some(view) = view_at(units, place) else {
-        return Ok(None);
-    };
-    let rows = view.in_force_at(alloc, a)?;
+    }
+    let rows = in_force(alloc, &near.rows, a)?;
     Ok(Some(FoundRows {
-        unit: place.unit,
+        unit: near.unit,
         rows,
     }))
 }

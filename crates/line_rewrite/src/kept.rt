@@ -38,6 +38,7 @@ pub struct KeptSequence {
     pub end: u64,
     /// The number of its rows.
     pub rows: usize,
-    /// The states before its first row, and before each row that is `MAX_ROWS` or `MAX_BYTES` after the last state.
+    /// The states before its first row, and before each row that is `MAX_ROWS` or `MAX_BYTES` after the last state and
+    /// above all rows before it.
     pub kept: Vec<Kept>,
 }

@@ -1,6 +1,7 @@
 // The state machine. DWARF 5, sections 6.2.2 and 6.2.5.
-ghost use Rattle.std.specs.Prelude.{◌≡◌, ◌<◌, ◌≤◌, ◌*◌};
-ghost use Rattle.line_rewrite.specs.LineMachine.{start, advanced, lined, address_advance, line_advance, after_op};
+ghost use Rattle.std.specs.Prelude.{◌≡◌, ◌<◌, ◌≤◌, ◌+◌, ◌*◌, ◌%◌, ◌^◌, IsFalse, IsTrue, None, Some};
+ghost use Rattle.std.specs.Int.{w64, cast_unsigned};
+ghost use Rattle.line_rewrite.specs.LineMachine.{start, advanced, address_advance, line_advance, after_op};
 ghost use Rattle.line_rewrite.specs.LineMachine.{after_row, effect_of};
 
 use crate::coding::Coding;
@@ -26,25 +27,25 @@ pub fn start(coding: &Coding) -> Registers
     }
 }
 
-// The address advanced by `n` bytes, if it stays in 64 bits.
-fn advanced(n: u64, registers: Registers) -> Option<Registers>
-    ensures { result ≡ advanced n registers }
+// Advances the address by `n` bytes; `false` if it would pass 64 bits.
+fn advance(n: u64, registers: &mut Registers) -> bool
+    ensures stays { IsTrue result → Some registers.new ≡ advanced n registers.old }
+    ensures passes { IsFalse result → None ≡ advanced n registers.old }
 {
-    let address = registers.address.checked_add(n)?;
-    Some(Registers {
-        address,
-        ..registers
-    })
+    match registers.address.checked_add(n) {
+        Some(address) => {
+            registers.address = address;
+            true
+        }
+        None => false,
+    }
 }
 
 // The line advanced by `by`, modulo 2^64.
-fn lined(by: i64, registers: Registers) -> Registers
-    ensures { result ≡ lined by registers }
+fn lined(by: i64, line: u64) -> u64
+    ensures { result ≡ (line + cast_unsigned w64 by) % 2 ^ 64 }
 {
-    Registers {
-        line: registers.line.wrapping_add(by.cast_unsigned()),
-        ..registers
-    }
+    line.wrapping_add(by.cast_unsigned())
 }
 
 // The address advance of a special opcode.
@@ -63,43 +64,48 @@ fn line_advance(coding: &Coding, adjusted: u8) -> i64
     coding.line_base as i64 + (adjusted % coding.line_range) as i64
 }
 
-// The address advanced by `n` instructions of the least length, if it stays in 64 bits.
-fn advanced_by(coding: &Coding, n: u64, registers: Registers) -> Option<Registers>
-    ensures { result ≡ advanced (n * coding.now.minimum_instruction_length) registers }
+// Advances the address by `n` instructions of the least length; `false` if it would pass 64 bits.
+fn advance_by(coding: &Coding, n: u64, registers: &mut Registers) -> bool
+    ensures stays { IsTrue result →
+        Some registers.new ≡ advanced (n * coding.now.minimum_instruction_length) registers.old }
+    ensures passes { IsFalse result → None ≡ advanced (n * coding.now.minimum_instruction_length) registers.old }
 {
-    let by = n.checked_mul(coding.minimum_instruction_length as u64)?;
-    advanced(by, registers)
+    match n.checked_mul(coding.minimum_instruction_length as u64) {
+        Some(by) => advance(by, registers),
+        None => false,
+    }
 }
 
-/// The registers after an operation. If it appends a row, they are that row. None if the address would pass 64 bits.
-pub fn after_op(coding: &Coding, op: LineOp, registers: Registers) -> Option<Registers>
+/// Changes the registers to those after an operation. If it appends a row, they are that row. `false` if the address
+/// would pass 64 bits.
+pub fn step(coding: &Coding, op: LineOp, registers: &mut Registers) -> bool
     requires { 0 < coding.now.line_range }
-    ensures { result ≡ after_op coding.now op registers }
+    ensures stays { IsTrue result → Some registers.new ≡ after_op coding.now op registers.old }
+    ensures passes { IsFalse result → None ≡ after_op coding.now op registers.old }
 {
-    let mut after = registers;
     match op {
         LineOp::Special(adjusted) => {
-            let by = address_advance(coding, adjusted);
-            return advanced(by, lined(line_advance(coding, adjusted), registers));
+            registers.line = lined(line_advance(coding, adjusted), registers.line);
+            return advance(address_advance(coding, adjusted), registers);
         }
-        LineOp::AdvancePc(n) => return advanced_by(coding, n, registers),
+        LineOp::AdvancePc(n) => return advance_by(coding, n, registers),
         LineOp::ConstAddPc => {
-            return advanced(address_advance(coding, 255 - coding.opcode_base), registers);
+            return advance(address_advance(coding, 255 - coding.opcode_base), registers);
         }
-        LineOp::FixedAdvancePc(n) => return advanced(n as u64, registers),
-        LineOp::SetAddress(address) => after.address = address,
-        LineOp::AdvanceLine(by) => after = lined(by, registers),
-        LineOp::SetFile(file) => after.file = file,
-        LineOp::SetColumn(column) => after.column = column,
-        LineOp::NegateStmt => after.is_stmt = !registers.is_stmt,
-        LineOp::SetBasicBlock => after.basic_block = true,
-        LineOp::SetPrologueEnd => after.prologue_end = true,
-        LineOp::SetEpilogueBegin => after.epilogue_begin = true,
-        LineOp::SetIsa(isa) => after.isa = isa,
-        LineOp::SetDiscriminator(discriminator) => after.discriminator = discriminator,
+        LineOp::FixedAdvancePc(n) => return advance(n as u64, registers),
+        LineOp::SetAddress(address) => registers.address = address,
+        LineOp::AdvanceLine(by) => registers.line = lined(by, registers.line),
+        LineOp::SetFile(file) => registers.file = file,
+        LineOp::SetColumn(column) => registers.column = column,
+        LineOp::NegateStmt => registers.is_stmt = !registers.is_stmt,
+        LineOp::SetBasicBlock => registers.basic_block = true,
+        LineOp::SetPrologueEnd => registers.prologue_end = true,
+        LineOp::SetEpilogueBegin => registers.epilogue_begin = true,
+        LineOp::SetIsa(isa) => registers.isa = isa,
+        LineOp::SetDiscriminator(discriminator) => registers.discriminator = discriminator,
         LineOp::Copy | LineOp::EndSequence | LineOp::Unknown => {}
     }
-    Some(after)
+    true
 }
 
 /// The effect of an operation on the table.

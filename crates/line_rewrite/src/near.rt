@@ -1,20 +1,22 @@
-// The rows in force at addresses near the last look-up.
-ghost use Rattle.std.specs.Prelude.{◌≤◌, List, IfOk, IsTrue, OnOk};
-ghost use Rattle.line_rewrite.specs.declared.unit.Unit as kept;
-ghost use Rattle.line_rewrite.specs.NearRows.{AreNear, Reaches};
-ghost use Rattle.line_rewrite.specs.SequenceIndex.{IsIndexOf, AreFound, IsSame};
+// The rows in force at addresses near a look-up.
+ghost use Rattle.std.specs.Prelude.{◌≡◌, ◌⊎◌, ◌<◌, ◌≤◌, ℕ, IfOk, IsFalse, IsTrue, OnOk};
+ghost use Rattle.line_rewrite.specs.LineMachine as spec;
+ghost use Rattle.line_rewrite.specs.NearRows.{AreNear, AreNearAt, Reaches};
+ghost use Rattle.line_rewrite.specs.SequenceIndex.{numbered_at, IsIndexOf};
+ghost use Rattle.line_rewrite.specs.Walks.{Ascends};
 
-use crate::found::{FoundRows, found_rows, view_at};
+use crate::found::view_at;
 use crate::registers::Registers;
-use crate::sequence_index::{Place, SequenceIndex};
+use crate::sequence_index::SequenceIndex;
 use crate::unit::Unit;
-use crate::walk::{in_force, none_between};
+use crate::walk::next_above;
 use std::alloc::{AllocError, Global};
 
-/// Rows of the sequence that was looked up last. They decide which rows are in force from `low` up to `high`.
+/// Rows of one sequence, which decide which of its rows are in force from `low` up to `high`.
 #[derive(Drop)]
 pub struct NearRows {
-    pub place: Place,
+    /// The index of its unit.
+    pub unit: usize,
     pub low: u64,
     pub high: u64,
     pub rows: Vec<Registers>,
@@ -22,100 +24,79 @@ pub struct NearRows {
 
 /// Before the first look-up: no rows, for no address.
 pub fn no_rows(alloc: Global) -> NearRows
-    ensures { (units : List kept.Unit) → AreNear units result }
+    ensures rows { Ascends 0 result.rows.items }
+    ensures range { result.high < result.low }
 {
     NearRows {
-        place: Place {
-            unit: 0,
-            sequence: 0,
-        },
+        unit: 0,
         low: 1,
         high: 0,
         rows: Vec::new(alloc),
     }
 }
 
+// The rows for an address and for those after it; `None` if no sequence has it.
+fn rows_near(
+    alloc: Global,
+    units: &[Unit],
+    index: &SequenceIndex,
+    a: u64,
+) -> Result<Option<NearRows>, AllocError>
+    requires { IsIndexOf units.now index.now }
+    ensures { IfOk result (λ o. AreNearAt units.now a o) }
+{
+    let (found, last) = index.find(a);
+    let Some(place) = found else {
+        return Ok(None);
+    };
+    let Some(view) = view_at(units, place) else {
+        return Ok(None);
+    };
+    let (rows, high) = view.rows_from(alloc, a)?;
+    Ok(Some(NearRows {
+        unit: place.unit,
+        low: a,
+        high: high.min(last),
+        rows,
+    }))
+}
+
 impl NearRows {
-    // Whether the rows decide for an address of the sequence at a place.
-    fn reach(&self, place: Place, a: u64) -> bool
-        ensures { IsTrue result → Reaches self.now place a }
-    {
-        self.place.unit == place.unit
-            && self.place.sequence == place.sequence
-            && self.low <= a
-            && a <= self.high
-    }
-
-    // Walks to rows that decide for an address of the sequence at a place, if these don't. There may be none.
-    fn walk_to(
-        &mut self,
-        alloc: Global,
-        units: &[Unit],
-        place: Place,
-        a: u64,
-    ) -> Result<(), AllocError>
-        requires { AreNear units.now self.old }
-        ensures { OnOk result (AreNear units.now self.new) }
-    {
-        if self.reach(place, a) {
-            return Ok(());
-        }
-        let Some(view) = view_at(units, place) else {
-            return Ok(());
-        };
-        let (rows, low, high) = view.rows_from(alloc, a)?;
-        *self = NearRows {
-            place,
-            low,
-            high,
-            rows,
-        };
-        Ok(())
-    }
-
-    /// The rows in force at an address; `None` if no sequence has it.
-    pub fn find(
+    /// Looks for rows that decide for an address, unless these do. `false` if no sequence has the address.
+    pub fn reach(
         &mut self,
         alloc: Global,
         units: &[Unit],
         index: &SequenceIndex,
         a: u64,
-    ) -> Result<Option<FoundRows>, AllocError>
-        requires index { IsIndexOf units.now index.now }
-        requires near { AreNear units.now self.old }
-        ensures near { OnOk result (AreNear units.now self.new) }
-        ensures found { IfOk result (λ o. AreFound units.now a o) }
+    ) -> Result<bool, AllocError>
+        requires { IsIndexOf units.now index.now }
+        ensures near { OnOk result ((self.new ≡ self.old) ⊎ AreNear units.now self.new) }
+        ensures reaches { IfOk result (λ there. IsTrue there → Reaches self.new a) }
+        ensures lacks { IfOk result (λ there. IsFalse there → numbered_at units.now a ≡ None) }
     {
-        let Some(place) = index.find(a) else {
-            return Ok(None);
-        };
-        self.walk_to(alloc, units, place, a)?;
-        if !self.reach(place, a) {
-            return found_rows(alloc, units, index, a);
+        if self.low <= a && a <= self.high {
+            return Ok(true);
         }
-        let rows = in_force(alloc, &self.rows, a)?;
-        Ok(Some(FoundRows {
-            unit: place.unit,
-            rows,
-        }))
+        match rows_near(alloc, units, index, a)? {
+            Some(near) => {
+                *self = near;
+                Ok(true)
+            }
+            None => Ok(false),
+        }
     }
 
-    /// Whether the same rows of one sequence are certainly in force at `a` and at `b`. `false` has no meaning.
-    pub fn is_same(&self, units: &[Unit], index: &SequenceIndex, a: u64, b: u64) -> bool
-        requires index { IsIndexOf units.now index.now }
-        requires near { AreNear units.now self.now }
-        requires ordered { a ≤ b }
-        ensures { IsTrue result → IsSame units.now a b }
+    /// The last address up to which the same rows are certainly in force as at an address that these rows decide for.
+    pub fn last_alike(&self, a: u64) -> u64
+        requires { Ascends 0 self.now.rows.items }
+        ensures alike { (x : ℕ) → a ≤ x → x ≤ result →
+            spec.in_force x self.now.rows.items ≡ spec.in_force a self.now.rows.items }
+        ensures high { result ≤ self.now.high }
     {
-        let (Some(place), Some(other)) = (index.find(a), index.find(b)) else {
-            return false;
-        };
-        if !self.reach(place, a) {
-            return false;
+        match next_above(&self.rows, a) {
+            Some(next) => (next - 1).min(self.high),
+            None => self.high,
         }
-        if !self.reach(other, b) {
-            return false;
-        }
-        none_between(&self.rows, a, b)
     }
 }

@@ -1,11 +1,13 @@
 // The programs of all line units, written run by run.
 ghost use Rattle.std.specs.Prelude.{◌≡◌, ◌<◌, ◌+◌, ◌^◌, ◌-◌, All, IfOk, OnOk, length};
 ghost use Rattle.answer_runs.specs.AnswerRuns.{IsWithin};
+ghost use Rattle.line_rewrite.specs.NearRows.{AreNear};
 ghost use Rattle.line_rewrite.specs.SequenceIndex.{IsIndexOf};
 ghost use Rattle.line_rewrite.specs.WrittenRuns as spec;
 
 use crate::answer::LineAt;
 use crate::found::found_rows;
+use crate::near::{NearRows, no_rows};
 use crate::run_writer::Program;
 use crate::sequence_index::SequenceIndex;
 use crate::unit::Unit;
@@ -29,6 +31,7 @@ fn begun(alloc: Global, units: &[Unit]) -> Result<Vec<Program>, NoMemory>
 // their unit. They are looked up again, since an answer has a path in place of a row's file index.
 fn add_run(
     alloc: Global,
+    near: &mut NearRows,
     programs: &mut [Program],
     units: &[Unit],
     sequences: &SequenceIndex,
@@ -36,8 +39,10 @@ fn add_run(
     run: &Run<LineAt>,
 ) -> Result<(), NoMemory>
     requires index { IsIndexOf units.now sequences.now }
+    requires near { AreNear units.now near.old }
     requires each { length programs.old ≡ length units.now }
     requires fits { run.now.start + run.now.len < 2 ^ 64 }
+    ensures near { OnOk result (AreNear units.now near.new) }
     ensures written { OnOk result (programs.new
         ≡ spec.with_placed programs.old (spec.placed units.now map.now run.now)) }
     ensures rows { OnOk result (spec.RowsFit (spec.placed units.now map.now run.now)) }
@@ -45,7 +50,7 @@ fn add_run(
     let Some(owner) = map.owner(run.start) else {
         return Ok(());
     };
-    let Some(found) = found_rows(alloc, units, sequences, owner)? else {
+    let Some(found) = found_rows(alloc, near, units, sequences, owner)? else {
         return Ok(());
     };
     let Some(unit) = units.get(found.unit) else {
@@ -71,8 +76,9 @@ pub fn programs_of(
     ensures rows { IfOk result (λ programs. spec.AllRowsFit units.now map.now runs.now) }
 {
     let mut programs = begun(alloc, units)?;
+    let mut near = no_rows(alloc);
     for run in runs {
-        add_run(alloc, &mut programs, units, sequences, map, run)?;
+        add_run(alloc, &mut near, &mut programs, units, sequences, map, run)?;
     }
     Ok(programs)
 }

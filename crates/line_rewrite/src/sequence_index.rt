@@ -1,5 +1,5 @@
 // The first sequence of many units that covers an address.
-ghost use Rattle.std.specs.Prelude.{◌≡◌, ◌++◌, IfOk, OnOk, map, slice_get, option_and_then};
+ghost use Rattle.std.specs.Prelude.{◌≡◌, ◌≤◌, ◌++◌, ℕ, IfOk, OnOk, map, slice_get, option_and_then};
 ghost use Rattle.answer_runs.specs.FirstRanges.{first_range};
 ghost use Rattle.line_rewrite.specs.SequenceIndex.{unit_numbered, kept_range, place_of, IsIndexOf};
 
@@ -60,11 +60,21 @@ impl SequenceIndex {
         Ok(SequenceIndex { places, first })
     }
 
-    /// The first sequence that covers an address, if one does.
-    pub fn find(&self, a: u64) -> Option<Place>
-        ensures { result ≡ option_and_then (slice_get self.now.places.items) (first_range self.now.first a) }
+    // The place with a number, if there is one.
+    fn place(&self, number: Option<usize>) -> Option<Place>
+        ensures { result ≡ option_and_then (slice_get self.now.places.items) number }
     {
-        let number = self.first.find(a)?;
+        let number = number?;
         self.places.get(number).copied()
+    }
+
+    /// The first sequence that covers an address, if one does, and the last address up to which that stays so.
+    pub fn find(&self, a: u64) -> (Option<Place>, u64)
+        ensures first { (x : ℕ) → a ≤ x → x ≤ result.1 →
+            result.0 ≡ option_and_then (slice_get self.now.places.items) (first_range self.now.first x) }
+        ensures last { a ≤ result.1 }
+    {
+        let (number, last) = self.first.piece(a);
+        (self.place(number), last)
     }
 }

@@ -8,7 +8,6 @@ ghost use Rattle.line_rewrite.specs.Troubles.{IfMalformed};
 use crate::header_reader::read_header;
 use crate::line_program::LineProgram;
 use crate::program::sequences_of;
-use crate::sound::is_sound;
 use crate::text::Texts;
 use crate::trouble::Trouble;
 use crate::unit::Unit;
@@ -70,10 +69,7 @@ pub fn read_unit(alloc: Global, texts: &Texts, bytes: &[u8]) -> Result<Unit, Tro
         lengths: &header.lengths,
         bytes: outer.program,
     };
-    if !is_sound(&program, files) {
-        return Err(Trouble::Malformed);
-    }
-    let sequences = sequences_of(alloc, &program)?;
+    let sequences = sequences_of(alloc, &program, files)?;
     let program = Vec::from_slice(alloc, outer.program)?;
     Ok(Unit {
         header,

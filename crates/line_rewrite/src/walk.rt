@@ -1,21 +1,21 @@
 // Programs walked from a kept state.
-ghost use Rattle.std.specs.Prelude.{◌≡◌, ◌≤◌, ◌∷◌, ◌++◌, [], length, take, IfNone, IfOk, IfSome, OnOk};
+ghost use Rattle.std.specs.Prelude.{◌≡◌, ◌<◌, ◌≤◌, ◌∷◌, [], length, drop, IfOk, IfSome, IsFalse, IsTrue};
 ghost use Rattle.line_rewrite.specs.LineMachine.{after_row, in_force};
-ghost use Rattle.line_rewrite.specs.Walks.{joined, latest, none_between, Ascends};
+ghost use Rattle.line_rewrite.specs.NearRows.{IsFront, IsPast};
+ghost use Rattle.line_rewrite.specs.Walks.{joined, next_above, Ascends};
 ghost use Rattle.line_rewrite.specs.Keeping.{rows_behind, rows_left};
 
 use crate::effect::Effect;
-use crate::kept::Kept;
+use crate::kept::{Kept, MAX_ROWS};
 use crate::line_program::LineProgram;
-use crate::machine::{after_op, after_row, effect_of};
+use crate::machine::{after_row, effect_of, step};
 use crate::reading::read_op;
 use crate::registers::Registers;
 use file_bounds::LINE_ROWS;
 use rb_bytes::cursor::Cursor;
 use std::alloc::{AllocError, Global};
 
-// Adds a row that was reached to the rows in force. Rows of another address are in force no more. Gives `AllocError`
-// also if there are too many rows.
+// Adds a row that was reached to the rows in force. Rows of another address are in force no more.
 fn join(found: &mut Vec<Registers>, row: Registers) -> Result<(), AllocError>
     ensures { IfOk result (λ _. found.new.items ≡ joined found.old.items row) }
 {
@@ -24,87 +24,67 @@ fn join(found: &mut Vec<Registers>, row: Registers) -> Result<(), AllocError>
             found.clear();
         }
     }
-    if found.len() >= LINE_ROWS {
-        return Err(AllocError);
-    }
     found.push(row)?;
     Ok(())
 }
 
-// The next row that a program appends before the sequence ends, from `registers` on, in the bytes left.
-fn next_row(
-    program: &LineProgram<'_>,
-    cursor: &mut Cursor<'_>,
-    registers: Registers,
-) -> Option<Registers>
-    ensures some { IfSome result (λ row. rows_left program.now cursor.old.left registers
-        ≡ row ∷ rows_left program.now cursor.new.left (after_row row)) }
-    ensures none { IfNone result (rows_left program.now cursor.old.left registers ≡ []) }
+// Walks to the next row that a program appends before the sequence ends, in the bytes left. `false` if there is none.
+fn next_row(program: &LineProgram<'_>, cursor: &mut Cursor<'_>, present: &mut Registers) -> bool
+    ensures some { IsTrue result → rows_left program.now cursor.old.left present.old
+        ≡ present.new ∷ rows_left program.now cursor.new.left (after_row present.new) }
+    ensures none { IsFalse result → rows_left program.now cursor.old.left present.old ≡ [] }
 {
-    let mut present = registers;
     'ops: while cursor.left() > 0 {
         let Ok(op) = read_op(cursor, program.coding.opcode_base, program.lengths) else {
-            return None;
+            return false;
         };
-        let next = after_op(program.coding, op, present)?;
+        if !step(program.coding, op, present) {
+            return false;
+        }
         match effect_of(op) {
-            Effect::Ends => return None,
-            Effect::Sets => present = next,
-            Effect::Appends => return Some(next),
+            Effect::Ends => return false,
+            Effect::Sets => {}
+            Effect::Appends => return true,
         }
     }
-    None
+    false
 }
 
-/// Walks over `count` rows from a state on, and changes `found`, the rows in force so far, to those in force at `a`.
-pub fn add_rows(
-    found: &mut Vec<Registers>,
+/// Rows from a state on which decide which of all those rows are in force from `a` up to another address, and that
+/// address. `count` rows decide up to `last`, if the row after them is past it.
+pub fn rows_from(
+    alloc: Global,
     program: &LineProgram<'_>,
     state: &Kept,
     count: usize,
+    last: u64,
     a: u64,
-) -> Result<(), AllocError>
-    requires { state.now.place ≤ length program.now.bytes.now }
-    ensures { OnOk result (found.new.items ≡ latest found.old.items a
-        (take count (rows_behind program.now state.now))) }
+) -> Result<(Vec<Registers>, u64), AllocError>
+    requires within { state.now.place ≤ length program.now.bytes.now }
+    requires least { a ≤ last }
+    ensures front { IfOk result (λ r. IsPast last (drop count (rows_behind program.now state.now)) →
+        IsFront r.1 r.0.items (rows_behind program.now state.now)) }
+    ensures least { IfOk result (λ r. a ≤ r.1) }
 {
     let (_, left) = program.bytes.split_at(state.place);
     let mut cursor = Cursor::new(left);
     let mut present = state.registers;
+    let mut rows = Vec::new(alloc);
     for n in 0..count {
-        let Some(row) = next_row(program, &mut cursor, present) else {
-            return Ok(());
-        };
-        if row.address > a {
-            return Ok(());
+        if !next_row(program, &mut cursor, &mut present) {
+            return Ok((rows, u64::MAX));
         }
-        join(found, row)?;
-        present = after_row(row);
+        // Many rows may be at one address, all before the next state.
+        if present.address > a && n >= MAX_ROWS {
+            return Ok((rows, present.address - 1));
+        }
+        if n >= LINE_ROWS {
+            return Err(AllocError);
+        }
+        rows.push(present)?;
+        present = after_row(present);
     }
-    Ok(())
-}
-
-/// Appends the `count` rows from a state on, or fewer if the sequence ends before.
-pub fn push_rows(
-    rows: &mut Vec<Registers>,
-    program: &LineProgram<'_>,
-    state: &Kept,
-    count: usize,
-) -> Result<(), AllocError>
-    requires { state.now.place ≤ length program.now.bytes.now }
-    ensures { OnOk result (rows.new.items ≡ rows.old.items ++ take count (rows_behind program.now state.now)) }
-{
-    let (_, left) = program.bytes.split_at(state.place);
-    let mut cursor = Cursor::new(left);
-    let mut present = state.registers;
-    for n in 0..count {
-        let Some(row) = next_row(program, &mut cursor, present) else {
-            return Ok(());
-        };
-        rows.push(row)?;
-        present = after_row(row);
-    }
-    Ok(())
+    Ok((rows, last))
 }
 
 /// The rows that are in force at an address, of rows in order.
@@ -122,17 +102,15 @@ pub fn in_force(alloc: Global, rows: &[Registers], a: u64) -> Result<Vec<Registe
     Ok(found)
 }
 
-/// Whether no row is above address `a` and at or below `b`.
-pub fn none_between(rows: &[Registers], a: u64, b: u64) -> bool
-    ensures { result ≡ none_between a b rows.now }
+/// The address of the first row above an address, if there is one.
+pub fn next_above(rows: &[Registers], a: u64) -> Option<u64>
+    ensures above { IfSome result (λ next. a < next) }
+    ensures next { result ≡ next_above a rows.now }
 {
     for row in rows {
-        if row.address > b {
-            return true;
-        }
         if row.address > a {
-            return false;
+            return Some(row.address);
         }
     }
-    true
+    None
 }

@@ -1,6 +1,6 @@
 // Tables of answers by address.
-ghost use Rattle.std.specs.Prelude.{◌≡◌, ◌-◌, ◌^◌, ℕ, List, AllPairs, Option, Some, None, IfOk, IsTrue, ◌↔◌};
-ghost use Rattle.std.specs.Prelude.{MatchResult, option_map, min};
+ghost use Rattle.std.specs.Prelude.{◌≡◌, ◌≤◌, ◌-◌, ◌^◌, ℕ, List, AllPairs, Option, Some, None, IfOk, IsTrue, ◌↔◌};
+ghost use Rattle.std.specs.Prelude.{MatchResult, OnOk, option_map};
 ghost use Rattle.rb_bytes.specs.declared.fault.FaultKind.{FaultKind};
 ghost use Rattle.elf_image.specs.declared.elf.Elf.{Elf};
 ghost use Rattle.rb_bytes.specs.FirstFault.{IsFree, IsRefusalBy};
@@ -25,6 +25,9 @@ pub trait ByAddress: Drop {
     /// An answer, never an empty one.
     type Answer: Drop;
 
+    /// What look-ups remember for those after them.
+    type Near: Drop;
+
     /// The contents of an answer, without the memory that it owns.
     ghost Meaning: { Type 0 };
 
@@ -32,6 +35,9 @@ pub trait ByAddress: Drop {
 
     /// The answer at an address.
     ghost says: { Self → ℕ → Option Meaning };
+
+    /// What is remembered is of the table.
+    ghost is_near: { Self → Self.Near → Type 0 };
 
     /// The answers of the table in a file, by address; none if the file has a fault of the table.
     ghost means: { Elf → Option (ℕ → Option Meaning) };
@@ -51,9 +57,6 @@ pub trait ByAddress: Drop {
     /// The second answer, of the new table, is the first, of the old one, carried by a map.
     ghost carries: { List Span → Meaning → Meaning → Type 0 };
 
-    /// A weight of the table that would be written for a map.
-    ghost weighs: { Self → List Span → ℕ → Type 0 };
-
     /// The conditions for writing the table with numbers of 32 bits: its sections are no larger than a file may be, and
     /// its weight, or for a loaded table the end of the written bytes, is within its limit.
     ghost fits: { Self → List Span → List (Run Meaning) → Type 0 };
@@ -69,9 +72,30 @@ pub trait ByAddress: Drop {
     fn same(x: &Self::Answer, y: &Self::Answer) -> bool
         ensures { IsTrue result ↔ (said x.now ≡ said y.now) };
 
+    /// Before the first look-up nothing is remembered.
+    fn begin(alloc: Global) -> Self::Near
+        ensures { (t : Self) → is_near t result };
+
+    /// The answer at an address, and the last address up to which it certainly stays the same.
+    fn find(
+        &self,
+        alloc: Global,
+        near: &mut Self::Near,
+        a: u64,
+    ) -> Result<(Option<Self::Answer>, u64), NoMemory>
+        requires { is_near self.now near.old }
+        ensures near { OnOk result (is_near self.now near.new) }
+        ensures said { IfOk result (λ r. option_map said r.0 ≡ says self.now a) }
+        ensures last { IfOk result (λ r. (x : ℕ) → a ≤ x → x ≤ r.1 → says self.now x ≡ says self.now a) };
+
     /// The answer at an address.
     fn at(&self, alloc: Global, a: u64) -> Result<Option<Self::Answer>, NoMemory>
-        ensures { IfOk result (λ o. option_map said o ≡ says self.now a) };
+        ensures { IfOk result (λ o. option_map said o ≡ says self.now a) }
+    {
+        let mut near = Self::begin(alloc);
+        let (answer, _) = self.find(alloc, &mut near, a)?;
+        Ok(answer)
+    }
 
     /// The memory of an answer, in bytes or a few more, with its run and all that it owns; 0 if the table has no limit.
     fn size(_answer: &Self::Answer) -> usize {
@@ -82,11 +106,6 @@ pub trait ByAddress: Drop {
     fn most_size(&self) -> usize {
         usize::MAX
     }
-
-    /// Whether two addresses certainly have the same answer. `false` has no meaning: it is also the result if finding
-    /// out would take as long as looking both up.
-    fn alike(&self, a: u64, b: u64) -> bool
-        ensures { IsTrue result → says self.now a ≡ says self.now b };
 
     /// Whether the table certainly has no answer at any address, such as a table that its file doesn't have. `false`
     /// has no meaning.
@@ -112,14 +131,6 @@ pub trait AddrTable: ByAddress {
         ensures reads { MatchResult result (λ t. (Self.means elf.now ≡ Some (Self.says t)) × IsFree (Self.has elf.now))
             (λ e. IsRefusalBy (Self.has elf.now) e) }
         ensures comes { IfOk result (λ t. Self.comes_from t elf.now) };
-
-    /// The weight of the table that would be written for a map, which bounds its size, saturated at 2^64 - 1.
-    fn weight(&self, alloc: Global, map: &AddrMap) -> Result<u64, NoMemory>
-        requires ordered { AllPairs IsLineBefore map.now }
-        requires disjoint { AllPairs ShareNoByte map.now }
-        requires low { AreLow map.now }
-        ensures { IfOk result (λ n. (weight : ℕ) × Self.weighs self.now map.now weight
-            × (n ≡ min weight (2 ^ 64 - 1))) };
 
     /// Writes the table from runs that have the old answers at the owners of their bytes.
     fn write_runs(

@@ -19,7 +19,6 @@ use file_bounds::{UNIT_WEIGHT, UNIT_WEIGHT_RATIO};
 use line_rewrite::LineAt;
 use rb_bytes::fault::NoMemory;
 use std::alloc::Global;
-use table_core::AddrTable;
 
 // Whether lists and declarations are so heavy for the file that memory could run out while they are written.
 fn is_much(weight: u64, file_size: u64) -> bool {

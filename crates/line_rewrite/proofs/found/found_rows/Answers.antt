@@ -1,21 +1,35 @@
-use Rattle.std.proofs.Common.{refl}
-use Rattle.line_rewrite.specs.SequenceIndex.{unit_sequence}
-use Rattle.line_rewrite.proofs.LineLookups.{none_there, place_there, found_there}
+use Rattle.std.proofs.Common.{◌≡◌, ◌∙◌, ◌⊎◌, inl, inr, ap, subst, sym, List}
+use Rattle.line_rewrite.specs.declared.near.NearRows.{NearRows}
+use Rattle.line_rewrite.specs.declared.registers.Registers.{Registers}
+use Rattle.line_rewrite.specs.declared.unit.Unit as kept
+use Rattle.line_rewrite.specs.LineMachine.{in_force}
+use Rattle.line_rewrite.specs.NearRows.{AreNear}
+use Rattle.line_rewrite.specs.SequenceIndex.{AreRowsAt}
+use Rattle.line_rewrite.specs.Walks.{Ascends}
 use Rattle.line_rewrite.proofs.found.found_rows.Goals as goal
 
-pub returns-in_default : goal.returns-in_default
-returns-in_default c =
-    none_there c.args.units.now c.args.index.now c.requires c.args.a c.find.result c.find.ensures c.in_default.is
+still : (us : List kept.Unit) (old new : NearRows) → AreNear us old → (new ≡ old) ⊎ AreNear us new → AreNear us new
+still us old new was (inl same) = subst (AreNear us) (sym same) was
+still us old new was (inr now) = now
 
-pub returns-in_default-view_at : goal.returns-in_default-view_at
-returns-in_default-view_at c =
-    absurd (place_there c.args.units.now c.args.index.now c.requires c.args.a c.find.result c.in-Some.place c.find.ensures c.in-Some.is
-    c.in_default-view_at.ensures.none)
+pub in_force-requires : goal.in_force-requires
+in_force-requires c =
+    subst (Ascends 0) (sym c.deref.ensures.value)
+    (still c.args.units.now c.args.near.now c.reach.new.self c.requires.near c.in_ok-reach.ensures.near).ascend
 
-pub returns : goal.returns
-returns c =
-    let p = c.in-Some.place in
-    let at = c.in-Some-view_at.ensures.found in
-    found_there c.args.units.now c.args.index.now c.requires c.args.a c.find.result p c.find.ensures c.in-Some.is at.unit at.unit_is
-    at.sequence at.sequence_is (record { unit = p.unit; rows = c.in_ok-rows.rows }) refl
-    (c.in_ok-rows.ensures (unit_sequence at.unit at.sequence).rows at.has at.begins)
+pub returns-then-not-branch-clause-near : goal.returns-then-not-branch-clause-near
+returns-then-not-branch-clause-near c =
+    still c.args.units.now c.args.near.now c.reach.new.self c.requires.near c.in_ok-reach.ensures.near
+
+pub returns-clause-near : goal.returns-clause-near
+returns-clause-near c =
+    still c.args.units.now c.args.near.now c.reach.new.self c.requires.near c.in_ok-reach.ensures.near
+
+pub returns-clause-found : goal.returns-clause-found
+returns-clause-found c =
+    let near = c.reach.new.self in
+    let found = still c.args.units.now c.args.near.now near c.requires.near c.in_ok-reach.ensures.near in
+    let there = c.in_ok-reach.ensures.reaches c.if-not-branch.false in
+    subst (AreRowsAt c.args.units.now c.args.a near.unit)
+    (sym (c.in_ok-rows.ensures ∙ ap (λ (l : List Registers). in_force c.args.a l) c.deref.ensures.value))
+    (found.found c.args.a there.low there.high)

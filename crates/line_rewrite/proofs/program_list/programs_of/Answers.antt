@@ -11,6 +11,10 @@ loop-run-init c =
     record {
       written = ap (λ (l : List Begun). with_runs c.args.units.now c.args.map.now l c.args.runs.now) e;
       rows = λ all. all;
+      near = record {
+        ascend = c.no_rows-near.ensures.rows;
+        found = λ x low high. let none = c.no_rows-near.ensures.range in absurd (omega (arith, none, low, high));
+      };
       each = ap length e ∙ begun_count c.args.units.now;
     }
 
@@ -41,6 +45,7 @@ loop-run-preserved c =
       rows = rows_next c.args.units.now c.args.map.now c.args.runs.now c.loop-run.run-index run run c.loop-run-test.true c.run-item.is
           c.loop-run.invariant.rows
           c.in_ok-add_run.ensures.rows;
+      near = c.in_ok-add_run.ensures.near;
       each = ap length seam ∙ count ∙ c.loop-run.invariant.each;
     }
 

@@ -1,5 +1,5 @@
-use Rattle.std.proofs.Common.{arith, sym, refl, ◌∙◌, ap, ◌^◌, subst}
-use Rattle.answer_runs.specs.LastRuns.{IsAnswer, ends_at}
+use Rattle.std.proofs.Common.{arith, sym, ◌∙◌, ap, ◌^◌}
+use Rattle.answer_runs.specs.LastRuns.{ends_at}
 use Rattle.answer_runs.specs.AnswerRuns.{said_runs}
 use Rattle.answer_runs.proofs.Grown.{run_at-longer, within-longer, longest-longer, answer-longer, said-longer, said-ends, last-room}
 use Rattle.answer_runs.proofs.Grown.{unsaid-within, within-up}
@@ -12,31 +12,31 @@ pub lengthen-requires : goal.lengthen-requires
 lengthen-requires g c =
     last-room 0 _ c.args.span.out c.args.span.len (2 ^ 64) (unsaid-within g.T.ByAddress.said 0 _ _ c.requires.before) c.requires.fits
 
-pub returns-then-alike-clause-answers : goal.returns-then-alike-clause-answers
-returns-then-alike-clause-answers g c = λ p.
+pub returns-then-a-known-clause-answers : goal.returns-then-a-known-clause-answers
+returns-then-a-known-clause-answers g c = λ p.
     let said = g.T.ByAddress.said in
     let runs = c.args.runs.now.items in
     let ends = said-ends said runs c.args.span.out ∙ ap (ends_at c.args.span.out) (sym c.deref.ensures.value) ∙ sym c.ends_at.ensures
     ∙ c.if-ends_at.true in
-    let is = subst (λ o. IsAnswer o (said_runs said runs)) (c.if-alike.ensures refl) c.requires.asked in
+    let is = c.requires.known c.args.span.input (omega arith) (omega arith) in
     rw (c.lengthen.ensures, said-longer said runs c.args.span.len)
     (run_at-longer (said_runs said runs) c.args.span.out c.args.span.len p (g.T.ByAddress.says c.args.table.now) c.args.span.input ends
     is)
 
-pub returns-then-alike-clause-within : goal.returns-then-alike-clause-within
-returns-then-alike-clause-within g c =
+pub returns-then-a-known-clause-within : goal.returns-then-a-known-clause-within
+returns-then-a-known-clause-within g c =
     rw (c.lengthen.ensures, said-longer g.T.ByAddress.said _ c.args.span.len)
     (within-longer 0 _ c.args.span.out c.args.span.len c.requires.before)
 
-pub returns-then-alike-clause-longer : goal.returns-then-alike-clause-longer
-returns-then-alike-clause-longer g c =
+pub returns-then-a-known-clause-longer : goal.returns-then-a-known-clause-longer
+returns-then-a-known-clause-longer g c =
     rw (c.lengthen.ensures, said-longer g.T.ByAddress.said _ c.args.span.len) (longest-longer _ c.args.span.len c.requires.longest)
 
-pub returns-then-alike-clause-asked : goal.returns-then-alike-clause-asked
-returns-then-alike-clause-asked g c =
+pub returns-then-a-known-clause-known : goal.returns-then-a-known-clause-known
+returns-then-a-known-clause-known g c = λ x from last.
     rw (c.lengthen.ensures, said-longer g.T.ByAddress.said c.args.runs.now.items c.args.span.len)
-    (answer-longer (g.T.ByAddress.says c.args.table.now c.args.asked.now) (said_runs g.T.ByAddress.said c.args.runs.now.items)
-    c.args.span.len c.requires.asked)
+    (answer-longer (g.T.ByAddress.says c.args.table.now x) (said_runs g.T.ByAddress.said c.args.runs.now.items)
+    c.args.span.len (c.requires.known x from last))
 
 pub returns-in_default-clause-within : goal.returns-in_default-clause-within
 returns-in_default-clause-within g c = within-up 0 _ _ _ c.requires.before (omega arith)
