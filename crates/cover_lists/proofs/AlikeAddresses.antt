@@ -1,28 +1,12 @@
 -- Addresses between which no range begins or ends.
-use Rattle.std.proofs.Common.{◌≡◌, ◌∙◌, ◌<◌, ◌≤◌, ◌==◌, ◌&&◌, ◌||◌, ◌∷◌, [], ℕ, Bool, not, List, All, refl, sym, ap, arith, length, get_or}
-use Rattle.std.proofs.Common.{map, filter, nat_le, nat_lt, ⊎_elim}
-use Rattle.std.proofs.lemmas.Bool.{cases_lt}
+use Rattle.std.proofs.Common.{◌≡◌, ◌∙◌, ◌==◌, ◌&&◌, ◌||◌, ◌∷◌, [], ℕ, Bool, not, List, All, refl, sym, ap, arith}
+use Rattle.std.proofs.Common.{map, filter, nat_le, nat_lt}
 use Rattle.std.proofs.lemmas.Bool.Decides.{nat_tests}
 use Rattle.std.proofs.lemmas.List.Elements.{All-head, All-tail}
 use Rattle.cover_lists.specs.declared.cover_tree.Cover.{Cover}
 use Rattle.cover_lists.specs.declared.groups.RangedEntry.{RangedEntry}
 use Rattle.cover_lists.specs.Bounds.{bounds_in}
 use Rattle.cover_lists.specs.Groups.{group_holds, held_places}
-
--- As many bounds are at most the one as at most the other.
-pub same_side : (bs : List ℕ) (m n a b : ℕ) → m ≡ n → ((k d : ℕ) → k < m → get_or bs k d ≤ a) →
-    ((k d : ℕ) → m ≤ k → k < length bs → a < get_or bs k d) → ((k d : ℕ) → k < n → get_or bs k d ≤ b) →
-    ((k d : ℕ) → n ≤ k → k < length bs → b < get_or bs k d) → All (λ x. nat_le x a ≡ nat_le x b) bs
-same_side bs m n a b same low high below above = λ k d h. ⊎_elim
-    (λ (l : k < m). both_at (get_or bs k d) a b (low k d l) (below k d (omega (arith, same))))
-    (λ (g : m ≤ k). both_past (get_or bs k d) a b (high k d g h) (above k d (omega (arith, same)) h))
-    (cases_lt k m)
-  where
-    both_at : (x a b : ℕ) → x ≤ a → x ≤ b → nat_le x a ≡ nat_le x b
-    both_at x a b p q = grind (arith, nat_tests)
-
-    both_past : (x a b : ℕ) → a < x → b < x → nat_le x a ≡ nat_le x b
-    both_past x a b p q = grind (arith, nat_tests)
 
 lt_not : (a x : ℕ) → nat_lt a x ≡ not (nat_le x a)
 lt_not a x = grind (arith, nat_tests)

@@ -120,11 +120,3 @@ fn are_up_to(bounds: &[u128], count: usize, a: u64) -> bool
     }
     bounds[count - 1] <= a as u128
 }
-
-/// Whether no bound is between two addresses: each of the ascending bounds is at most both, or at most neither.
-pub fn are_alike(bounds: &[u128], a: u64, b: u64) -> bool
-    requires { IsNonDecreasing bounds.now }
-    ensures { IsTrue result → All (λ x. nat_le x a ≡ nat_le x b) bounds.now }
-{
-    count_up_to(bounds, a) == count_up_to(bounds, b)
-}

@@ -11,7 +11,8 @@ use crate::registers::Registers;
 use crate::sequence_index::{Place, SequenceIndex};
 use crate::unit::Unit;
 use crate::walk::in_force;
-use std::alloc::{AllocError, Global};
+use rb_bytes::fault::NoMemory;
+use std::alloc::Global;
 
 /// The rows in force at an address, in the first sequence that covers it.
 #[derive(Drop)]
@@ -46,7 +47,7 @@ pub fn found_rows(
     units: &[Unit],
     index: &SequenceIndex,
     a: u64,
-) -> Result<Option<FoundRows>, AllocError>
+) -> Result<Option<FoundRows>, NoMemory>
     requires index { IsIndexOf units.now index.now }
     requires near { AreNear units.now near.old }
     ensures near { OnOk result (AreNear units.now near.new) }

@@ -11,7 +11,8 @@ use crate::kept::Kept;
 use crate::line_program::LineProgram;
 use crate::registers::Registers;
 use crate::walk::rows_from;
-use std::alloc::{AllocError, Global};
+use rb_bytes::fault::NoMemory;
+use std::alloc::Global;
 
 /// A sequence of a program.
 #[derive(Clone, Copy)]
@@ -58,7 +59,7 @@ fn last_before(kept: &[Kept], state: usize, a: u64) -> u64
 
 impl<'a> SequenceView<'a> {
     /// Rows of the sequence that decide which are in force from `a` up to another address, and that address.
-    pub fn rows_from(&self, alloc: Global, a: u64) -> Result<(Vec<Registers>, u64), AllocError>
+    pub fn rows_from(&self, alloc: Global, a: u64) -> Result<(Vec<Registers>, u64), NoMemory>
         ensures enough { IfOk result (λ r. (list : List Registers) → HasRows list self.now →
             Begins (length list) self.now.kept.now → AreEnough a r.1 r.0.items list) }
         ensures least { IfOk result (λ r. a ≤ r.1) }

@@ -10,7 +10,8 @@ use crate::registers::Registers;
 use crate::sequence_index::SequenceIndex;
 use crate::unit::Unit;
 use crate::walk::next_above;
-use std::alloc::{AllocError, Global};
+use rb_bytes::fault::NoMemory;
+use std::alloc::Global;
 
 /// Rows of one sequence, which decide which of its rows are in force from `low` up to `high`.
 #[derive(Drop)]
@@ -41,7 +42,7 @@ fn rows_near(
     units: &[Unit],
     index: &SequenceIndex,
     a: u64,
-) -> Result<Option<NearRows>, AllocError>
+) -> Result<Option<NearRows>, NoMemory>
     requires { IsIndexOf units.now index.now }
     ensures { IfOk result (λ o. AreNearAt units.now a o) }
 {
@@ -69,7 +70,7 @@ impl NearRows {
         units: &[Unit],
         index: &SequenceIndex,
         a: u64,
-    ) -> Result<bool, AllocError>
+    ) -> Result<bool, NoMemory>
         requires { IsIndexOf units.now index.now }
         ensures near { OnOk result ((self.new ≡ self.old) ⊎ AreNear units.now self.new) }
         ensures reaches { IfOk result (λ there. IsTrue there → Reaches self.new a) }

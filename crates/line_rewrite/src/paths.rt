@@ -12,7 +12,8 @@ use crate::entry::{Entry, Text};
 use crate::registers::Registers;
 use crate::unit::Unit;
 use file_bounds::PATH_BYTES;
-use std::alloc::{AllocError, Global};
+use rb_bytes::fault::NoMemory;
+use std::alloc::Global;
 
 const SLASH: u8 = b'/';
 
@@ -34,12 +35,12 @@ fn directory_path(
     compiled_in: &Text,
     index: u64,
     name: &[u8],
-) -> Result<Vec<u8>, AllocError>
+) -> Result<Vec<u8>, NoMemory>
     ensures { IfOk result (λ path. path.items
         ≡ directory_path (told_name (strings_held str.now line_str.now) compiled_in.now) index name.now) }
 {
     if is_absolute(name) || index == 0 {
-        return Vec::from_slice(alloc, name);
+        return Ok(Vec::from_slice(alloc, name)?);
     }
     let compiled_in = compiled_in.bytes(str, line_str);
     let mut path = Vec::from_slice(alloc, compiled_in)?;
@@ -55,7 +56,7 @@ fn path_of(
     line_str: &[u8],
     directories: &[Entry],
     file: &Entry,
-) -> Result<Option<Vec<u8>>, AllocError>
+) -> Result<Option<Vec<u8>>, NoMemory>
     ensures { IfOk result (λ o. option_map (λ path. path.items) o
         ≡ path_of (told_entries (strings_held str.now line_str.now) directories.now)
         (told_entry (strings_held str.now line_str.now) file.now)) }
@@ -92,7 +93,7 @@ pub fn file_path(
     line_str: &[u8],
     unit: &Unit,
     file: u64,
-) -> Result<Option<Vec<u8>>, AllocError>
+) -> Result<Option<Vec<u8>>, NoMemory>
     ensures { IfOk result (λ o. option_map (λ path. path.items) o
         ≡ file_path (told_unit (strings_held str.now line_str.now) unit.now) file) }
 {
@@ -109,7 +110,7 @@ fn row_said(
     line_str: &[u8],
     unit: &Unit,
     row: Registers,
-) -> Result<Option<LineRow>, AllocError>
+) -> Result<Option<LineRow>, NoMemory>
     ensures { IfOk result (λ o. o ≡ row_said (told_unit (strings_held str.now line_str.now) unit.now) row) }
 {
     match file_path(alloc, str, line_str, unit, row.file)? {
@@ -133,7 +134,7 @@ fn push_row(
     said: &mut Vec<LineRow>,
     row: Option<LineRow>,
     bytes: &mut usize,
-) -> Result<(), AllocError>
+) -> Result<(), NoMemory>
     ensures { OnOk result (said.new.items ≡ said.old.items ++ option_to_list row) }
 {
     let Some(row) = row else {
@@ -141,7 +142,7 @@ fn push_row(
     };
     *bytes = bytes.saturating_add(row.path.len());
     if *bytes > PATH_BYTES {
-        return Err(AllocError);
+        return Err(NoMemory);
     }
     said.push(row)?;
     Ok(())
@@ -154,7 +155,7 @@ pub fn rows_said(
     line_str: &[u8],
     unit: &Unit,
     rows: &[Registers],
-) -> Result<Vec<LineRow>, AllocError>
+) -> Result<Vec<LineRow>, NoMemory>
     ensures { IfOk result (λ said. said.items ≡ filter_map (row_said (told_unit
         (strings_held str.now line_str.now) unit.now)) rows.now) }
 {

@@ -15,7 +15,8 @@ use crate::machine::{after_row, effect_of, start, step};
 use crate::reading::read_op;
 use crate::trouble::Trouble;
 use rb_bytes::cursor::Cursor;
-use std::alloc::{AllocError, Global};
+use rb_bytes::fault::NoMemory;
+use std::alloc::Global;
 
 // Whether an address isn't below the last row's, if there is a last row.
 fn follows(last: Option<u64>, address: u64) -> bool
@@ -38,7 +39,7 @@ fn is_above(last: Option<u64>, address: u64) -> bool
 }
 
 // Keeps a state if one is due and its row is above all rows before it, and returns when the next one is due.
-fn keep(kept: &mut Vec<Kept>, due: Due, last: Option<u64>, state: Kept) -> Result<Due, AllocError>
+fn keep(kept: &mut Vec<Kept>, due: Due, last: Option<u64>, state: Kept) -> Result<Due, NoMemory>
     ensures { IfOk result (λ _. kept.new.items ≡ kept_more due last state kept.old.items) }
 {
     let is_due = state.index >= due.row || state.place >= due.place;

@@ -13,10 +13,11 @@ use crate::reading::read_op;
 use crate::registers::Registers;
 use file_bounds::LINE_ROWS;
 use rb_bytes::cursor::Cursor;
-use std::alloc::{AllocError, Global};
+use rb_bytes::fault::NoMemory;
+use std::alloc::Global;
 
 // Adds a row that was reached to the rows in force. Rows of another address are in force no more.
-fn join(found: &mut Vec<Registers>, row: Registers) -> Result<(), AllocError>
+fn join(found: &mut Vec<Registers>, row: Registers) -> Result<(), NoMemory>
     ensures { IfOk result (λ _. found.new.items ≡ joined found.old.items row) }
 {
     if let Some(first) = found.first() {
@@ -59,7 +60,7 @@ pub fn rows_from(
     count: usize,
     last: u64,
     a: u64,
-) -> Result<(Vec<Registers>, u64), AllocError>
+) -> Result<(Vec<Registers>, u64), NoMemory>
     requires within { state.now.place ≤ length program.now.bytes.now }
     requires least { a ≤ last }
     ensures front { IfOk result (λ r. IsPast last (drop count (rows_behind program.now state.now)) →
@@ -79,7 +80,7 @@ pub fn rows_from(
             return Ok((rows, present.address - 1));
         }
         if n >= LINE_ROWS {
-            return Err(AllocError);
+            return Err(NoMemory);
         }
         rows.push(present)?;
         present = after_row(present);
@@ -88,7 +89,7 @@ pub fn rows_from(
 }
 
 /// The rows that are in force at an address, of rows in order.
-pub fn in_force(alloc: Global, rows: &[Registers], a: u64) -> Result<Vec<Registers>, AllocError>
+pub fn in_force(alloc: Global, rows: &[Registers], a: u64) -> Result<Vec<Registers>, NoMemory>
     requires { Ascends 0 rows.now }
     ensures { IfOk result (λ found. found.items ≡ in_force a rows.now) }
 {
