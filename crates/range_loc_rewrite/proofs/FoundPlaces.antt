@@ -1,11 +1,9 @@
 -- The kept locations give the answers of the definition.
-use Rattle.std.proofs.Common.{◌≡◌, ◌∙◌, ◌++◌, ℕ, false, List, Option, Some, None, refl, sym, ap, subst, length, map, filter, nat_le, All}
+use Rattle.std.proofs.Common.{◌≡◌, ◌∙◌, ℕ, false, List, Option, Some, None, refl, sym, ap, subst, length, map, filter}
 use Rattle.std.specs.Prelude.{flat_map, option_map, slice_get}
 use Rattle.std.specs.List.{range_with_len}
-use Rattle.std.specs.List.Sorted.{IsNonDecreasing, IsPermutation}
 use Rattle.std.specs.Option.{option_map_or}
 use Rattle.std.proofs.lemmas.List.{length-map}
-use Rattle.std.proofs.lemmas.List.Sorted.{All-permutation, IsPermutation-sym}
 use Rattle.std.proofs.lemmas.Option.{slice_get-map}
 use Rattle.elf_image.specs.declared.elf.Elf.{Elf}
 use Rattle.rb_bytes.specs.FirstFault.{IsFree}
@@ -14,26 +12,19 @@ use Rattle.cover_lists.specs.declared.cover_index.CoverIndex.{CoverIndex}
 use Rattle.cover_lists.specs.declared.cover_tree.Cover.{Cover}
 use Rattle.cover_lists.specs.declared.groups.Groups.{Groups}
 use Rattle.cover_lists.specs.declared.groups.RangedEntry.{RangedEntry}
-use Rattle.cover_lists.specs.declared.kept_list.KeptList.{KeptList}
 use Rattle.list_units.specs.declared.located_attr.LocatedAttr.{LocatedAttr}
 use Rattle.list_units.specs.declared.located_attr.Locations.{Locations}
-use Rattle.list_units.specs.declared.located_attr.Source.{Source}
-use Rattle.list_units.specs.declared.located_attr.Source.TheVariants.{Direct, Listed}
-use Rattle.cover_lists.specs.Bounds.{bounds_in}
 use Rattle.cover_lists.specs.CoverIndex.{IsCoverIndex, held_numbers}
 use Rattle.dw_lists.specs.declared.named_list.NamedList.{NamedList}
 use Rattle.dw_lists.specs.declared.indexed_unit.IndexedUnit.{IndexedUnit}
 use Rattle.dw_lists.specs.Faults.{ListSections, location_places}
 use Rattle.cover_lists.specs.Groups.{group_holds}
-use Rattle.cover_lists.specs.KeptLists.{list_bounds}
 use Rattle.range_loc_rewrite.specs.KeptPlaces.{ranged_of, said_by_number, ArePlacesKept}
 use Rattle.dw_lists.specs.ListTables.{place_says}
-use Rattle.dw_lists.specs.Locations.{places_said, attr_says}
+use Rattle.dw_lists.specs.Locations.{places_said}
 use Rattle.list_units.specs.PlaceReading.{ArePlacesOf}
 use Rattle.dw_lists.specs.Tables.{list_sections, place_answers}
-use Rattle.list_units.specs.UnitLocations.{all_located, located_says, source_says}
-use Rattle.cover_lists.proofs.AlikeAddresses.{alike_groups}
-use Rattle.cover_lists.proofs.AlikeLists.{All-left, All-right, numbered_alike}
+use Rattle.list_units.specs.UnitLocations.{all_located, located_says}
 use Rattle.cover_lists.proofs.ByNumbers.{listed_by_number}
 use Rattle.range_loc_rewrite.proofs.FreeRanges.{answers_free}
 
@@ -53,51 +44,26 @@ numbers_are covers located a = λ i. filter (λ k. tested k i) (range_with_len 0
     tested k = ap (λ (o : Option RangedEntry). option_map_or (λ (r : RangedEntry). group_holds covers r.group a) o false)
         (slice_get-map ranged_of located k) ∙ of_option (slice_get located k)
 
-pub found_places : (s : ListSections) (kept : Locations) (named : List NamedList) (index : CoverIndex) (bounds : List ℕ)
-    (indexed : List IndexedUnit) (a : ℕ)
-    (numbers : List ℕ) →
-    ArePlacesKept s kept named index bounds indexed → numbers ≡ held_numbers index.tree (map ranged_of kept.located.items) a →
+pub found_places : (s : ListSections) (kept : Locations) (named : List NamedList) (index : CoverIndex)
+    (indexed : List IndexedUnit) (a : ℕ) (numbers : List ℕ) →
+    ArePlacesKept s kept named index indexed → numbers ≡ held_numbers index.tree (map ranged_of kept.located.items) a →
     flat_map (said_by_number kept a) numbers ≡ places_said s a
-found_places s kept named index bounds indexed a numbers are e =
+found_places s kept named index indexed a numbers are e =
     ap (flat_map (said_by_number kept a)) (e ∙ numbers_are index.tree kept.located.items a)
     ∙ listed_by_number (located_says kept.lists.items a) (λ (l : LocatedAttr). group_holds index.tree l.group a) kept.located.items
     ∙ are.says a
 
--- No range of an entry or of a list begins or ends between two addresses
-
-source_alike : (lists : List KeptList) (x : Source) (a b : ℕ) → All (λ x. nat_le x a ≡ nat_le x b) (list_bounds lists) →
-    source_says lists a x ≡ source_says lists b x
-source_alike lists (Direct x) a b same = refl
-source_alike lists (Listed n) a b same = numbered_alike lists n a b same
-
-all_alike : (covers : List Cover) (lists : List KeptList) (located : List LocatedAttr) (a b : ℕ) →
-    All (λ x. nat_le x a ≡ nat_le x b) (bounds_in covers) →
-    All (λ x. nat_le x a ≡ nat_le x b) (list_bounds lists) → all_located covers lists located a ≡ all_located covers lists located b
-all_alike covers lists located a b same listed =
-    (λ i. flat_map (λ (l : LocatedAttr). attr_says l.place l.attr (source_alike lists l.source a b listed i))
-    (filter (λ (l : LocatedAttr). alike_groups covers a b l.group same i) located))
-
-pub places_kept : (s : ListSections) (groups : Groups) (kept : Locations) (named : List NamedList) (index : CoverIndex) (bounds : List ℕ)
+pub places_kept : (s : ListSections) (groups : Groups) (kept : Locations) (named : List NamedList) (index : CoverIndex)
     (indexed : List IndexedUnit) →
     ArePlacesOf s groups kept named indexed →
-    IsCoverIndex groups.covers.items (map ranged_of kept.located.items) index → IsNonDecreasing bounds →
-    IsPermutation (bounds_in groups.covers.items ++ list_bounds kept.lists.items) bounds → ArePlacesKept s kept named index bounds indexed
-places_kept s groups kept named index bounds indexed are is rising all = record {
+    IsCoverIndex groups.covers.items (map ranged_of kept.located.items) index → ArePlacesKept s kept named index indexed
+places_kept s groups kept named index indexed are is = record {
   free = are.free;
   index_is = record { held = λ g a. refl; members = is.members };
   says = λ a. same_covers a ∙ are.says a;
   listed = are.listed;
   names = are.names;
   indexes = are.indexes;
-  rising = rising;
-  apart = λ a b same.
-      let bounded : All (λ x. nat_le x a ≡ nat_le x b) (bounds_in groups.covers.items ++ list_bounds kept.lists.items) =
-      All-permutation (λ x. nat_le x a ≡ nat_le x b) bounds (bounds_in groups.covers.items ++ list_bounds kept.lists.items)
-      (IsPermutation-sym (bounds_in groups.covers.items ++ list_bounds kept.lists.items) bounds all) same in
-      sym (are.says a)
-      ∙ all_alike groups.covers.items kept.lists.items kept.located.items a b
-      (All-left (λ x. nat_le x a ≡ nat_le x b) (bounds_in groups.covers.items) (list_bounds kept.lists.items) bounded)
-      (All-right (λ x. nat_le x a ≡ nat_le x b) (bounds_in groups.covers.items) (list_bounds kept.lists.items) bounded) ∙ are.says b;
 }
   where
     same_covers : (a : ℕ) → all_located index.tree kept.lists.items kept.located.items a

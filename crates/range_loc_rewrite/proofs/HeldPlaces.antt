@@ -1,5 +1,5 @@
 -- The offsets of the entries that cover an address, by their numbers.
-use Rattle.std.proofs.Common.{sym, All, nat_le, ◌≡◌, ◌∙◌, ◌∷◌, [], ℕ, Bool, true, false, List, refl, ap, map, filter}
+use Rattle.std.proofs.Common.{sym, nat_le, ◌≡◌, ◌∙◌, ◌∷◌, [], ℕ, Bool, true, false, List, refl, ap, map, filter}
 use Rattle.std.specs.Prelude.{if◌then◌else◌, filter_map}
 use Rattle.cover_lists.specs.declared.cover_tree.Cover.{Cover}
 use Rattle.cover_lists.specs.declared.groups.RangedEntry.{RangedEntry}
@@ -16,7 +16,7 @@ use Rattle.dw_lists.specs.Ranges.{covering}
 use Rattle.std.specs.List.Sorted.{IsNonDecreasing, IsPermutation}
 use Rattle.std.proofs.lemmas.List.Sorted.{All-permutation, IsPermutation-sym}
 use Rattle.cover_lists.specs.Bounds.{bounds_in}
-use Rattle.cover_lists.proofs.AlikeAddresses.{alike_groups, held_alike_at}
+use Rattle.cover_lists.proofs.AlikeAddresses.{alike_groups}
 use Rattle.cover_lists.proofs.ByNumbers.{mapped_by_number}
 
 pub places_are : (covers : List Cover) (ranged : List RangedEntry) (a : ℕ) →
@@ -74,10 +74,3 @@ pub found_are : (s : ListSections) (ranged : List RangedEntry) (count : ℕ) (in
     numbers ≡ held_numbers index.tree ranged a → filter_map (place_at ranged) numbers ≡ covering s a
 found_are s ranged count index bounds indexed a numbers are e =
     ap (filter_map (place_at ranged)) e ∙ places_are index.tree ranged a ∙ are.held a
-
--- No range begins or ends between two addresses.
-pub covered_alike : (s : ListSections) (ranged : List RangedEntry) (count : ℕ) (index : CoverIndex) (bounds : List ℕ)
-    (indexed : List IndexedUnit) (a b : ℕ) →
-    AreKept s ranged count index bounds indexed → All (λ x. nat_le x a ≡ nat_le x b) bounds → covering s a ≡ covering s b
-covered_alike s ranged count index bounds indexed a b are same =
-    sym (are.held a) ∙ held_alike_at index.tree ranged a b (are.apart a b same) ∙ are.held b

@@ -1,4 +1,4 @@
--- The weight of locations is that of the kept lists.
+-- The weight of locations is that of the lists to which units refer.
 use Rattle.std.proofs.Common.{◌≡◌, ◌||◌, ◌+◌, ◌++◌, ◌∷◌, [], ℕ, List, Option, Some, None, refl, sym, subst, map, filter, not}
 use Rattle.std.specs.Prelude.{flat_map}
 use Rattle.std.specs.Option.{option_or, option_map_or}
@@ -12,16 +12,11 @@ use Rattle.table_core.specs.DebugUnits.{walked, first_place}
 use Rattle.dw_unit.specs.CompUnits.{Unit, units}
 use Rattle.dw_unit.specs.Faults.{HasDwarfFault, is_bad, bad_address_table}
 use Rattle.dw_unit.proofs.NoFaults.{absent, none_least, both_nil}
-use Rattle.cover_lists.specs.declared.cover_index.CoverIndex.{CoverIndex}
-use Rattle.list_units.specs.declared.located_attr.Locations.{Locations}
-use Rattle.dw_lists.specs.declared.named_list.NamedList.{NamedList}
-use Rattle.dw_lists.specs.declared.indexed_unit.IndexedUnit.{IndexedUnit}
 use Rattle.dw_lists.specs.Faults.{ListSections, location_places, has_bad_offsets, list_offsets, table_place, bad_list_tables, bad_table}
 use Rattle.dw_lists.specs.KnownLists.{location_list}
-use Rattle.range_loc_rewrite.specs.KeptPlaces.{ArePlacesKept}
 use Rattle.dw_lists.specs.Lists.{ranges_kind, locations_kind}
 use Rattle.cover_lists.specs.Located.{Located, in_force}
-use Rattle.cover_lists.specs.ListWeights.{IsSaidWeight, IsListsWeight, IsSumOf, expressions_weight}
+use Rattle.cover_lists.specs.ListWeights.{IsSaidWeight, IsSumOf, expressions_weight}
 use Rattle.list_units.specs.ReadLists.{firsts, said_at, can_read, unit_lists}
 use Rattle.dw_lists.specs.Weights.{IsListWeight, IsUnitWeight, IsPlacesWeight, expressions_at, index_weights}
 use Rattle.cover_lists.specs.ListWeights.IsSumOf.{none, more}
@@ -77,13 +72,7 @@ module _ (s : ListSections) (spans : List Span) where
       subst (IsSumOf (IsUnitWeight s spans) (u ∷ us)) (sym two.sum)
       (more u us two.first two.second (unit_weight u two.first both.0 two.of_first) (units_weight us two.second both.1 two.of_second))
 
-  pub places_weight : (kept : Locations) (named : List NamedList) (index : CoverIndex) (bounds : List ℕ)
-      (indexed : List IndexedUnit) (n : ℕ) →
-      ArePlacesKept s kept named index bounds indexed →
-      IsListsWeight kept.lists.items spans n → IsPlacesWeight s spans (index_weights locations_kind.index_form s + n)
-  places_weight kept named index bounds indexed n are w = record {
-    runs = n;
-    of_runs = units_weight (units s.units) n (none_bad s are.free)
-        (subst (λ (l : List (ℕ → List (List ℕ))). IsSumOf (IsSaidWeight spans) l n) are.listed w);
-    sum = refl;
-  }
+  pub places_weight : (n : ℕ) → IsFree (HasDwarfFault (location_places s)) →
+      IsSumOf (IsSaidWeight spans) (flat_map (unit_lists s) (units s.units)) n →
+      IsPlacesWeight s spans (index_weights locations_kind.index_form s + n)
+  places_weight n free w = record { runs = n; of_runs = units_weight (units s.units) n (none_bad s free) w; sum = refl }

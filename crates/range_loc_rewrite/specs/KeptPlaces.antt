@@ -1,6 +1,5 @@
 -- The fields that are kept of sections of locations without a fault.
-use Rattle.std.specs.Prelude.{◌≡◌, ℕ, List, [], All, map, nat_le, flat_map, slice_get, None}
-use Rattle.std.specs.List.Sorted.{IsNonDecreasing}
+use Rattle.std.specs.Prelude.{◌≡◌, ℕ, List, [], map, flat_map, slice_get, None}
 use Rattle.std.specs.Option.{option_map_or}
 use Rattle.rb_bytes.specs.FirstFault.{IsFree}
 use Rattle.dw_unit.specs.CompUnits.{units}
@@ -30,16 +29,12 @@ abbrev pub said_by_number : Locations → ℕ → ℕ → List PlaceSaid
 said_by_number kept a k = option_map_or (located_says kept.lists.items a) (slice_get kept.located.items k) []
 
 -- The location attributes, with the lists to which each unit refers and the attributes that do so; the index that finds
--- those whose ranges contain an address; `bounds`, such that all addresses between two of them have the same answer;
--- and the list indexes that units use.
+-- those whose ranges contain an address; and the list indexes that units use.
 pub record ArePlacesKept (s : ListSections) (kept : Locations) (named : List NamedList) (index : CoverIndex)
-    (bounds : List ℕ) (indexed : List IndexedUnit) :
-    Type 0 where
+    (indexed : List IndexedUnit) : Type 0 where
   pub free : IsFree (HasDwarfFault (location_places s))
   pub index_is : IsCoverIndex index.tree (map ranged_of kept.located.items) index
   pub says : (a : ℕ) → all_located index.tree kept.lists.items kept.located.items a ≡ places_said s a
   pub listed : all_say kept.lists.items ≡ flat_map (unit_lists s) (units s.units)
   pub names : AreNamesOf kept.lists.items named (all_items s)
   pub indexes : indexed ≡ indexed_units locations_kind s.units
-  pub rising : IsNonDecreasing bounds
-  pub apart : (a b : ℕ) → All (λ x. nat_le x a ≡ nat_le x b) bounds → places_said s a ≡ places_said s b

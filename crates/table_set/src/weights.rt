@@ -17,6 +17,7 @@ use dw_unit::abbrev_weight;
 use elf_image::Elf;
 use file_bounds::{UNIT_WEIGHT, UNIT_WEIGHT_RATIO};
 use line_rewrite::LineAt;
+use range_loc_rewrite::PlaceRuns;
 use rb_bytes::fault::NoMemory;
 use std::alloc::Global;
 
@@ -31,6 +32,8 @@ fn is_much(weight: u64, file_size: u64) -> bool {
 /// What tables were weighed by, and are written from.
 #[derive(Drop)]
 pub struct Weighed {
+    /// The longest runs of the expressions of each location list at the owners of new bytes.
+    pub places: PlaceRuns,
     /// The longest runs of line answers at the owners of new bytes.
     pub lines: Vec<Run<LineAt>>,
 }
@@ -57,8 +60,9 @@ pub fn weigh_all(
     if ranges > WEIGHT_LIMIT {
         return Ok(None);
     }
-    let places = tables.places.weight(alloc, map)?;
-    if places > WEIGHT_LIMIT {
+    let places = tables.places.carried(alloc, map)?;
+    let expressions = tables.places.weight_of(&places);
+    if expressions > WEIGHT_LIMIT {
         return Ok(None);
     }
     let aranges = tables.aranges.weight(alloc, map)?;
@@ -69,15 +73,15 @@ pub fn weigh_all(
     if abbrevs > WEIGHT_LIMIT {
         return Ok(None);
     }
-    // The runs of lines are made last, since they are kept and take the most memory.
+    // The runs of lines are made last, since they take the most memory.
     let lines = tables.lines.carried(alloc, map)?;
     let rows = tables.lines.weight_of(&lines);
     if rows > WEIGHT_LIMIT {
         return Ok(None);
     }
-    let weight = ranges.saturating_add(places).saturating_add(abbrevs);
+    let weight = ranges.saturating_add(expressions).saturating_add(abbrevs);
     if is_much(weight, elf.file.len() as u64) {
         return Err(NoMemory);
     }
-    Ok(Some(Weighed { lines }))
+    Ok(Some(Weighed { places, lines }))
 }

@@ -7,6 +7,7 @@ use Rattle.dw_unit.specs.Tables.{sections_of}
 use Rattle.line_rewrite.specs.LineAnswers.{LineSaid}
 use Rattle.line_rewrite.specs.Tables.{IsLineWeight, LineSections, line_at}
 use Rattle.range_loc_rewrite.specs.Faults.{ListSections}
+use Rattle.range_loc_rewrite.specs.PlaceRuns.{ArePlaceRuns}
 use Rattle.range_loc_rewrite.specs.Weights.{IsPlacesWeight, IsRangesWeight}
 use Rattle.addr_rewrite.specs.Tables.{IsArangesWeight}
 use Rattle.table_set.specs.TableLimits.{IsTooHeavy, lines, ranges, places, aranges, abbreviations}
@@ -18,9 +19,12 @@ returns-then-ranges-gt-WEIGHT_LIMIT-clause-heavy c =
     let h = heavy _ c.in_ok-ranges.ranges c.in_ok-ranges.ensures c.if-ranges-gt-WEIGHT_LIMIT.true in
     ranges h.0 (subst (λ (t : ListSections). IsRangesWeight t c.args.map.now h.0) c.requires.comes.ranges h.1) h.2
 
-pub returns-then-places-gt-WEIGHT_LIMIT-clause-heavy : goal.returns-then-places-gt-WEIGHT_LIMIT-clause-heavy
-returns-then-places-gt-WEIGHT_LIMIT-clause-heavy c =
-    let h = heavy _ c.in_ok-places.places c.in_ok-places.ensures c.if-places-gt-WEIGHT_LIMIT.true in
+pub returns-then-expressions-gt-WEIGHT_LIMIT-clause-heavy : goal.returns-then-expressions-gt-WEIGHT_LIMIT-clause-heavy
+returns-then-expressions-gt-WEIGHT_LIMIT-clause-heavy c =
+    let are : ArePlaceRuns c.args.tables.now.places c.args.map.now c.deref.result.now =
+    subst (ArePlaceRuns c.args.tables.now.places c.args.map.now) (sym c.deref.ensures.value) c.in_ok-places.ensures in
+    let h = heavy _ c.weight_of-expressions.result (c.weight_of-expressions.ensures c.args.map.now are)
+    c.if-expressions-gt-WEIGHT_LIMIT.true in
     places h.0 (subst (λ (t : ListSections). IsPlacesWeight t c.args.map.now h.0) c.requires.comes.places h.1) h.2
 
 pub returns-then-aranges-gt-WEIGHT_LIMIT-clause-heavy : goal.returns-then-aranges-gt-WEIGHT_LIMIT-clause-heavy
@@ -35,9 +39,9 @@ returns-then-abbrevs-gt-WEIGHT_LIMIT-clause-heavy c =
 
 pub returns-then-rows-gt-WEIGHT_LIMIT-clause-heavy : goal.returns-then-rows-gt-WEIGHT_LIMIT-clause-heavy
 returns-then-rows-gt-WEIGHT_LIMIT-clause-heavy c =
-    let are : AreRunsOf (carried (line_at c.args.tables.now.lines) c.args.map.now) c.deref.result.now =
+    let are : AreRunsOf (carried (line_at c.args.tables.now.lines) c.args.map.now) c.deref-2.result.now =
     subst (λ (rs : List (Run LineSaid)). AreRunsOf (carried (line_at c.args.tables.now.lines) c.args.map.now) rs)
-    (sym c.deref.ensures.value) c.in_ok-lines.ensures.runs in
+    (sym c.deref-2.ensures.value) c.in_ok-lines.ensures.runs in
     let h = heavy _ c.weight_of-rows.result (c.weight_of-rows.ensures c.args.map.now are) c.if-rows-gt-WEIGHT_LIMIT.true in
     lines h.0 (subst (λ (t : LineSections). IsLineWeight t c.args.map.now h.0) c.requires.comes.lines h.1) h.2
 
@@ -47,9 +51,12 @@ returns-clause-light c = λ heavy. by heavy
     over : (n m : ℕ) → m ≤ n → n < m → ⊥
     over n m a b = omega (arith, a, b)
 
-    are : AreRunsOf (carried (line_at c.args.tables.now.lines) c.args.map.now) c.deref.result.now
+    are : AreRunsOf (carried (line_at c.args.tables.now.lines) c.args.map.now) c.deref-2.result.now
     are = subst (λ (rs : List (Run LineSaid)). AreRunsOf (carried (line_at c.args.tables.now.lines) c.args.map.now) rs)
-        (sym c.deref.ensures.value) c.in_ok-lines.ensures.runs
+        (sym c.deref-2.ensures.value) c.in_ok-lines.ensures.runs
+
+    said : ArePlaceRuns c.args.tables.now.places c.args.map.now c.deref.result.now
+    said = subst (ArePlaceRuns c.args.tables.now.places c.args.map.now) (sym c.deref.ensures.value) c.in_ok-places.ensures
 
     by : IsTooHeavy c.args.elf.now c.args.map.now → ⊥
     by (lines n is h) =
@@ -61,8 +68,9 @@ returns-clause-light c = λ heavy. by heavy
         (over weight_limit c.in_ok-ranges.ranges c.if-ranges-gt-WEIGHT_LIMIT.false) n
         (subst (λ (t : ListSections). IsRangesWeight t c.args.map.now n) (sym c.requires.comes.ranges) is) h
     by (places n is h) =
-        places_light c.args.tables.now.places c.args.map.now c.in_ok-places.places c.in_ok-places.ensures
-        (over weight_limit c.in_ok-places.places c.if-places-gt-WEIGHT_LIMIT.false) n
+        places_light c.args.tables.now.places c.args.map.now c.weight_of-expressions.result
+        (c.weight_of-expressions.ensures c.args.map.now said)
+        (over weight_limit c.weight_of-expressions.result c.if-expressions-gt-WEIGHT_LIMIT.false) n
         (subst (λ (t : ListSections). IsPlacesWeight t c.args.map.now n) (sym c.requires.comes.places) is) h
     by (aranges n is h) =
         aranges_light c.args.tables.now.aranges c.args.map.now c.in_ok-aranges.aranges c.in_ok-aranges.ensures

@@ -1,13 +1,8 @@
-use Rattle.std.proofs.Common.{◌≡◌, ◌∙◌, ◌<◌, ◌++◌, ℕ, List, ap, sym, subst, map, length}
-use Rattle.std.specs.List.Sorted.{IsPermutation}
+use Rattle.std.proofs.Common.{◌≡◌, ◌∙◌, ◌<◌, ℕ, List, ap, sym, subst, map, length}
 use Rattle.std.proofs.lemmas.List.Elements.{All-map, All-weaker}
-use Rattle.cover_lists.specs.declared.cover_tree.Cover.{Cover}
 use Rattle.cover_lists.specs.declared.groups.RangedEntry.{RangedEntry}
-use Rattle.cover_lists.specs.declared.kept_list.KeptList.{KeptList}
-use Rattle.cover_lists.specs.Bounds.{bounds_in}
 use Rattle.cover_lists.specs.CoverIndex.{IsCoverIndex}
 use Rattle.cover_lists.specs.Groups.{AreWithin}
-use Rattle.cover_lists.specs.KeptLists.{list_bounds}
 use Rattle.dw_lists.specs.Faults.{ListSections, list_sections_held}
 use Rattle.dw_lists.specs.Tables.{list_sections}
 use Rattle.list_units.specs.declared.located_attr.LocatedAttr.{LocatedAttr}
@@ -39,15 +34,10 @@ invariant_of-result c =
     ((c.in_ok-ranges.ensures.items ∙ c.contents_of-4.ensures) i) ((c.in_ok-locations.ensures.items ∙ c.contents_of-5.ensures) i) in
     places_kept (list_sections_held c.in_ok-info.info.items c.in_ok-abbrevs.abbrevs.items c.in_ok-addr.addr.items
     c.in_ok-ranges.ranges.items c.in_ok-locations.locations.items) e.groups e.kept e.named.items c.in_ok-index.index
-    c.in_ok-bounds.bounds.items e.indexed.items
+    e.indexed.items
     (subst (λ (x : ListSections). ArePlacesOf x e.groups e.kept e.named.items e.indexed.items) (sym same) c.requires)
     (subst (λ (rs : List RangedEntry). IsCoverIndex e.groups.covers.items rs c.in_ok-index.index)
     (c.deref-2.ensures.value ∙ c.in_ok-ranged.ensures ∙ ap (map ranged_of) c.deref.ensures.value) c.in_ok-index.ensures)
-    c.in_ok-bounds.ensures.rising
-    (subst (λ (ls : List KeptList). IsPermutation (bounds_in e.groups.covers.items ++ list_bounds ls) c.in_ok-bounds.bounds.items)
-    c.deref-4.ensures.value
-    (subst (λ (cs : List Cover). IsPermutation (bounds_in cs ++ list_bounds c.deref-4.result.now) c.in_ok-bounds.bounds.items)
-    c.deref-3.ensures.value c.in_ok-bounds.ensures.all))
 
 pub returns : goal.returns
 returns c =

@@ -1,17 +1,17 @@
 use Rattle.std.proofs.Common.{◌≡◌, ◌∙◌, ℕ, List, [], ap, sym, subst, map, length, All}
+use Rattle.std.specs.Prelude.{flat_map}
 use Rattle.std.specs.Global.{Vec}
 use Rattle.rb_bytes.specs.FirstFault.{IsFree}
-use Rattle.answer_runs.specs.AnswerRuns.{carried, AreRunsOf}
 use Rattle.answer_runs.specs.CarriedAnswers.{IsCarriedFrom}
 use Rattle.dw_unit.specs.Faults.{HasDwarfFault}
 use Rattle.dw_unit.proofs.EntryPlaces.{places_ascend}
-use Rattle.cover_lists.specs.declared.kept_list.KeptList.{KeptList}
 use Rattle.dw_lists.specs.declared.list_kind.ListKind.TheVariants.{Locations}
 use Rattle.dw_lists.specs.declared.named_list.NamedList.{NamedList}
 use Rattle.dw_lists.specs.Faults.{ListSections, list_sections_held, location_places}
 use Rattle.cover_lists.specs.KeptLists.{items_in}
 use Rattle.list_units.specs.Listing.{AreNamesOf, all_items}
-use Rattle.cover_lists.specs.ListRuns.{said_in, list_answer}
+use Rattle.list_units.specs.ReadLists.{unit_lists}
+use Rattle.cover_lists.specs.ListRuns.{said_in}
 use Rattle.dw_lists.specs.ListTables.{place_says, PlacesMade}
 use Rattle.dw_lists.specs.Tables.{list_sections, place_answers}
 use Rattle.list_writer.specs.WrittenLocations.{runs_bytes, CanBeWritten}
@@ -24,7 +24,9 @@ use Rattle.range_loc_rewrite.proofs.PlaceOrigins.{origin}
 use Rattle.range_loc_rewrite.proofs.UsedIndexes.{left_in}
 use Rattle.range_loc_rewrite.proofs.ItemOrder.{names_in_order, names_own}
 use Rattle.range_loc_rewrite.specs.NewOffsets.{PlacesGetOffsets}
+use Rattle.range_loc_rewrite.specs.PlaceRuns.{ArePlaceRuns}
 use Rattle.range_loc_rewrite.proofs.PlaceOffsets.{places_get_offsets}
+use Rattle.range_loc_rewrite.proofs.PlaceRuns.{kept_count, kept_each}
 use Rattle.range_loc_rewrite.proofs.PlacesWritten.{are_spelled, made_of, law_of}
 use Rattle.range_loc_rewrite.proofs.SoundPlaces.{places_fine}
 use Rattle.range_loc_rewrite.proofs.UnitsFree.{units_free}
@@ -59,9 +61,9 @@ write_tables-requires c =
     let t = c.self.inside in
     let s : ListSections = list_sections_held t.info.items t.abbrevs.items t.addr.items t.ranges.items t.locations.items in
     let up = places_ascend s.units (units_free s (places_fine s c.self.invariant.free).ranges) in
-    left_are s t.named.items t.indexed.items c.in_ok-bytes.bytes.items c.deref-6.result.now c.deref-3.result.now c.deref-7.result.now
-    c.deref-4.result.now c.indexed_in-units.result.now c.deref-5.result.now c.deref-6.ensures.value c.deref-3.ensures.value
-    c.deref-7.ensures.value c.deref-4.ensures.value c.deref-5.ensures.value c.indexed_in-units.ensures
+    left_are s t.named.items t.indexed.items c.in_ok-bytes.bytes.items c.deref-4.result.now c.deref.result.now c.deref-5.result.now
+    c.deref-2.result.now c.indexed_in-units.result.now c.deref-3.result.now c.deref-4.ensures.value c.deref.ensures.value
+    c.deref-5.ensures.value c.deref-2.ensures.value c.deref-3.ensures.value c.indexed_in-units.ensures
     (subst (λ (us : List IndexedUnit). AreLeft Locations 0 0 t.named.items (indexed_in s.locations t.named.items us))
     (sym c.self.invariant.indexes)
     (left_in Locations (λ _. ⊥) (units s.units) s.locations t.named.items
@@ -75,20 +77,20 @@ returns-clause-law c = λ i f from stands.
     let s : ListSections = list_sections_held t.info.items t.abbrevs.items t.addr.items t.ranges.items t.locations.items in
     let same : s ≡ list_sections i = c.self.view_is ∙ from in
     let spans = c.args.map.now in
-    let rs = c.in_ok-carried.carried.items in
+    let rs = c.args.runs.now in
     let bs = c.in_ok-bytes.bytes.items in
     let w = c.in_ok-written.written in
     let free : IsFree (HasDwarfFault (location_places (list_sections i))) =
     subst (λ (x : ListSections). IsFree (HasDwarfFault (location_places x))) same c.self.invariant.free in
-    let count : length rs ≡ length t.kept.lists.items = c.in_ok-carried.ensures.count ∙ ap length c.deref.ensures.value in
-    let each : (n : ℕ) → AreRunsOf (carried (list_answer t.kept.lists.items n) spans) (said_in rs n) =
-    λ n. subst (λ (ls : List KeptList). AreRunsOf (carried (list_answer ls n) spans) (said_in rs n)) c.deref.ensures.value
-    (c.in_ok-carried.ensures.each n) in
-    let spelled : items_in bs ≡ map runs_bytes rs = c.in_ok-bytes.ensures.written ∙ ap (map runs_bytes) c.deref-2.ensures.value in
-    let fits : All CanBeWritten rs = subst (All CanBeWritten) c.deref-2.ensures.value c.in_ok-bytes.ensures.fits in
-    let written = written_are s t.named.items t.indexed.items bs c.deref-6.result.now c.deref-3.result.now c.deref-7.result.now
-    c.deref-4.result.now c.indexed_in-units.result.now c.deref-5.result.now c.deref-6.ensures.value c.deref-3.ensures.value
-    c.deref-7.ensures.value c.deref-4.ensures.value c.deref-5.ensures.value c.indexed_in-units.ensures w c.in_ok-written.ensures.written in
+    let are : ArePlaceRuns s spans rs = subst (λ (x : ListSections). ArePlaceRuns x spans rs) (sym c.self.view_is) c.requires in
+    let says = flat_map (unit_lists s) (units s.units) in
+    let count = kept_count says t.kept.lists.items c.self.invariant.listed spans rs are in
+    let each = kept_each says t.kept.lists.items c.self.invariant.listed spans rs are in
+    let spelled : items_in bs ≡ map runs_bytes rs = c.in_ok-bytes.ensures.written in
+    let fits : All CanBeWritten rs = c.in_ok-bytes.ensures.fits in
+    let written = written_are s t.named.items t.indexed.items bs c.deref-4.result.now c.deref.result.now c.deref-5.result.now
+    c.deref-2.result.now c.indexed_in-units.result.now c.deref-3.result.now c.deref-4.ensures.value c.deref.ensures.value
+    c.deref-5.ensures.value c.deref-2.ensures.value c.deref-3.ensures.value c.indexed_in-units.ensures w c.in_ok-written.ensures.written in
     let law = law_of i f spans free t.kept.lists.items t.named.items
     (subst (λ (x : ListSections). AreNamesOf t.kept.lists.items t.named.items (all_items x)) same c.self.invariant.names) rs count each
     bs spelled fits (with_tables t.named.items (indexed_in s.locations t.named.items t.indexed.items)) w written stands in
@@ -100,12 +102,12 @@ returns-clause-made c =
     let s : ListSections = list_sections_held t.info.items t.abbrevs.items t.addr.items t.ranges.items t.locations.items in
     let bs = c.in_ok-bytes.bytes.items in
     let w = c.in_ok-written.written in
-    let written = written_are s t.named.items t.indexed.items bs c.deref-6.result.now c.deref-3.result.now c.deref-7.result.now
-    c.deref-4.result.now c.indexed_in-units.result.now c.deref-5.result.now c.deref-6.ensures.value c.deref-3.ensures.value
-    c.deref-7.ensures.value c.deref-4.ensures.value c.deref-5.ensures.value c.indexed_in-units.ensures w c.in_ok-written.ensures.written in
-    let none = none_are s t.named.items t.indexed.items bs c.deref-6.result.now c.deref-3.result.now c.deref-7.result.now
-    c.deref-4.result.now c.indexed_in-units.result.now c.deref-5.result.now c.deref-6.ensures.value c.deref-3.ensures.value
-    c.deref-7.ensures.value c.deref-4.ensures.value c.deref-5.ensures.value c.indexed_in-units.ensures w c.in_ok-written.ensures.none in
+    let written = written_are s t.named.items t.indexed.items bs c.deref-4.result.now c.deref.result.now c.deref-5.result.now
+    c.deref-2.result.now c.indexed_in-units.result.now c.deref-3.result.now c.deref-4.ensures.value c.deref.ensures.value
+    c.deref-5.ensures.value c.deref-2.ensures.value c.deref-3.ensures.value c.indexed_in-units.ensures w c.in_ok-written.ensures.written in
+    let none = none_are s t.named.items t.indexed.items bs c.deref-4.result.now c.deref.result.now c.deref-5.result.now
+    c.deref-2.result.now c.indexed_in-units.result.now c.deref-3.result.now c.deref-4.ensures.value c.deref.ensures.value
+    c.deref-5.ensures.value c.deref-2.ensures.value c.deref-3.ensures.value c.indexed_in-units.ensures w c.in_ok-written.ensures.none in
     subst (λ (x : ListSections). PlacesMade x w) c.self.view_is
     (made_of s t.kept.lists.items t.named.items c.self.invariant.names bs
     (with_tables t.named.items (indexed_in s.locations t.named.items t.indexed.items)) w written
@@ -116,21 +118,21 @@ returns-clause-offsets c =
     let t = c.self.inside in
     let s : ListSections = list_sections_held t.info.items t.abbrevs.items t.addr.items t.ranges.items t.locations.items in
     let spans = c.args.map.now in
-    let rs = c.in_ok-carried.carried.items in
+    let rs = c.args.runs.now in
     let bs = c.in_ok-bytes.bytes.items in
     let w = c.in_ok-written.written in
-    let count : length rs ≡ length t.kept.lists.items = c.in_ok-carried.ensures.count ∙ ap length c.deref.ensures.value in
-    let each : (n : ℕ) → AreRunsOf (carried (list_answer t.kept.lists.items n) spans) (said_in rs n) =
-    λ n. subst (λ (ls : List KeptList). AreRunsOf (carried (list_answer ls n) spans) (said_in rs n)) c.deref.ensures.value
-    (c.in_ok-carried.ensures.each n) in
-    let spelled : items_in bs ≡ map runs_bytes rs = c.in_ok-bytes.ensures.written ∙ ap (map runs_bytes) c.deref-2.ensures.value in
-    let fits : All CanBeWritten rs = subst (All CanBeWritten) c.deref-2.ensures.value c.in_ok-bytes.ensures.fits in
-    let written = written_are s t.named.items t.indexed.items bs c.deref-6.result.now c.deref-3.result.now c.deref-7.result.now
-    c.deref-4.result.now c.indexed_in-units.result.now c.deref-5.result.now c.deref-6.ensures.value c.deref-3.ensures.value
-    c.deref-7.ensures.value c.deref-4.ensures.value c.deref-5.ensures.value c.indexed_in-units.ensures w c.in_ok-written.ensures.written in
-    let none = none_are s t.named.items t.indexed.items bs c.deref-6.result.now c.deref-3.result.now c.deref-7.result.now
-    c.deref-4.result.now c.indexed_in-units.result.now c.deref-5.result.now c.deref-6.ensures.value c.deref-3.ensures.value
-    c.deref-7.ensures.value c.deref-4.ensures.value c.deref-5.ensures.value c.indexed_in-units.ensures w c.in_ok-written.ensures.none in
+    let are : ArePlaceRuns s spans rs = subst (λ (x : ListSections). ArePlaceRuns x spans rs) (sym c.self.view_is) c.requires in
+    let says = flat_map (unit_lists s) (units s.units) in
+    let count = kept_count says t.kept.lists.items c.self.invariant.listed spans rs are in
+    let each = kept_each says t.kept.lists.items c.self.invariant.listed spans rs are in
+    let spelled : items_in bs ≡ map runs_bytes rs = c.in_ok-bytes.ensures.written in
+    let fits : All CanBeWritten rs = c.in_ok-bytes.ensures.fits in
+    let written = written_are s t.named.items t.indexed.items bs c.deref-4.result.now c.deref.result.now c.deref-5.result.now
+    c.deref-2.result.now c.indexed_in-units.result.now c.deref-3.result.now c.deref-4.ensures.value c.deref.ensures.value
+    c.deref-5.ensures.value c.deref-2.ensures.value c.deref-3.ensures.value c.indexed_in-units.ensures w c.in_ok-written.ensures.written in
+    let none = none_are s t.named.items t.indexed.items bs c.deref-4.result.now c.deref.result.now c.deref-5.result.now
+    c.deref-2.result.now c.indexed_in-units.result.now c.deref-3.result.now c.deref-4.ensures.value c.deref.ensures.value
+    c.deref-5.ensures.value c.deref-2.ensures.value c.deref-3.ensures.value c.indexed_in-units.ensures w c.in_ok-written.ensures.none in
     subst (λ (x : ListSections). PlacesGetOffsets x.units x.locations w.lists.items w.bytes.items) c.self.view_is
     (places_get_offsets s (places_fine s c.self.invariant.free).there t.kept.lists.items t.named.items c.self.invariant.names bs spans
     (said_in rs) (are_spelled s t.kept.lists.items t.named.items c.self.invariant.names spans rs count each bs spelled fits)

@@ -15,7 +15,7 @@ returns-clause-said c =
     let s : ListSections = list_sections_held t.info.items t.abbrevs.items t.addr.items t.ranges.items t.locations.items in
     let found : all_said c.in_ok-places.places ≡ places_said s c.args.a =
     c.in_ok-places.ensures ∙ ap (flat_map (said_by_number t.kept c.args.a)) c.deref.ensures.value
-    ∙ found_places s t.kept t.named.items t.index t.bounds.items t.indexed.items c.args.a c.in_ok-numbers.numbers.items c.self.invariant
+    ∙ found_places s t.kept t.named.items t.index t.indexed.items c.args.a c.in_ok-numbers.numbers.items c.self.invariant
     (c.in_ok-numbers.ensures t.index.tree (map ranged_of t.kept.located.items) c.self.invariant.index_is) in
     c.unless_empty.ensures ∙ ap unless_empty found ∙ ap (λ (x : ListSections). place_says x c.args.a) c.self.view_is
 
