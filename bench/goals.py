@@ -45,6 +45,7 @@ from rewrite import MIB, make
 from tables import BOLT
 
 BIG, LARGE = 25.5, 27  # MiB
+SKIPPED = "--skip-funcs=exit"  # where llvm-bolt-19 fails on Lua
 NOISE = 1.01  # of a peak: memory comes in pages, and from the system's own parts
 BEFORE = "before"
 # A function of `big`: more code and fewer variables than those of debug_files.py.
@@ -136,7 +137,7 @@ def commands(tool, before, folder, goals):
         found[BEFORE] = [*before, *moved]
     found["objcopy"] = [CROSS + "objcopy", path("in"), path("copy")]
     if "llvm-bolt" in goals:
-        found["llvm-bolt"] = ["llvm-bolt-19", path("in"), "-o", path("bolt"), *BOLT, "--data", path("named")]
+        found["llvm-bolt"] = ["llvm-bolt-19", path("in"), "-o", path("bolt"), *BOLT, SKIPPED, "--data", path("named")]
     return found
 
 
