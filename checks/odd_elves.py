@@ -39,7 +39,7 @@ from odd.shape import ODDITIES, UNWRITABLE, Shape
 OK, REFUSED, OUT_OF_MEMORY = 0, 221, 224
 SECONDS, TIMED_OUT = 60, -1000
 SHT_SYMTAB, SHT_RELA, SYMBOL_SIZE = 2, 4, 24
-PT_NOTE, NOTE_HEADER = 4, 12
+PT_LOAD, PT_NOTE, NOTE_HEADER = 1, 4, 12
 
 
 def make(rng, only):
@@ -90,6 +90,13 @@ class Headers:
         """Its offset says nothing, and doesn't pass the written file's end."""
         return self.programs[program][5] == 0
 
+    def is_unloaded(self, program):
+        """No loaded segment has its first byte. gABI, "Program Loading": only loaded segments have offsets and addresses
+        that agree."""
+        offset = self.programs[program][2]
+        loads = [it for it in self.programs if it[0] == PT_LOAD]
+        return not any(it[2] <= offset < it[2] + it[5] for it in loads)
+
     def unread_notes(self, program):
         """The bytes of a segment whose notes libelf doesn't read, with its padding of them; nothing of another one."""
         kind, _, offset, _, _, size, _, align = self.programs[program]
@@ -128,7 +135,9 @@ def is_no_matter(line, headers, written):
         home = written.home(int(symbol[1]), int(symbol[2]))
         return home < len(headers.sections) and headers.is_dropped(home)
     program = re.search(r"program header entry (\d+): file offset and virtual address not module of alignment", line)
-    return bool(program) and int(program[1]) < len(headers.programs) and headers.has_no_bytes(int(program[1]))
+    if not program or int(program[1]) >= len(headers.programs):
+        return False
+    return headers.has_no_bytes(int(program[1])) or written.is_unloaded(int(program[1]))
 
 
 def normalised(line):
