@@ -91,8 +91,8 @@ class Headers:
         return self.programs[program][5] == 0
 
     def is_unloaded(self, program):
-        """No loaded segment has its first byte. gABI, "Program Loading": only loaded segments have offsets and addresses
-        that agree."""
+        """No loaded segment has its first byte. gABI, "Program Loading": only in loaded segments offsets and addresses
+        agree."""
         offset = self.programs[program][2]
         loads = [it for it in self.programs if it[0] == PT_LOAD]
         return not any(it[2] <= offset < it[2] + it[5] for it in loads)
@@ -141,8 +141,8 @@ def is_no_matter(line, headers, written):
 
 
 def normalised(line):
-    """A complaint without what differs between a file and its rewrite: numbers, how code was named, and what stands behind
-    a note, of whose section eu-elflint passes the end."""
+    """A complaint without what differs between a file and its rewrite: numbers, how code was named, and what follows a
+    note, of whose section eu-elflint passes the end."""
     line = re.sub(r"symbol \d+ \([^)]*\)", "symbol", line.replace("'.old.", "'."))
     line = re.sub(r"with owner name '[^']*'", "with owner name", line)
     line = re.sub(r"0x[0-9a-f]+|\b[0-9a-f]*[0-9][0-9a-f]*\b", "#", line)
