@@ -8,7 +8,10 @@ pub mod Gains
 pub mod Members
 pub mod Searches
 pub mod ListLemmas
+pub mod SpelledBack
 pub mod Stable
+pub mod Lacks
+pub mod PartitionPoints
 pub mod Permuted
 pub mod Results
 pub mod Tests

@@ -1,9 +1,9 @@
 -- Options and lists: results of searches, lists of lists, maps over lists, and lists whose elements are related
 -- pairwise.
 use Rattle.std.proofs.Common.{◌≡◌, ℕ, zero, suc, ◌<◌, List, [], ◌∷◌, ◌++◌, length, map, Option, Some, None, Bool, true, false}
-use Rattle.std.proofs.Common.{cond, refl, sym, ap, ◌∙◌, subst, arith, inl, inr, ◌⊎◌, ⊎_elim, All, get_or, ◌≤◌, take, sum_by}
+use Rattle.std.proofs.Common.{◌+◌, cond, refl, sym, ap, ◌∙◌, subst, arith, inl, inr, ◌⊎◌, ⊎_elim, All, get_or, ◌≤◌, take, sum_by}
 use Rattle.std.specs.Prelude.{AllPairs, Contains, IfSome, find, flat_map, slice_index_or, ◌||◌, slice_index, replicate, slice_get}
-use Rattle.std.specs.List.{list_any}
+use Rattle.std.specs.List.{list_any, range_with_len}
 use Rattle.std.specs.List.Sorted.{IsNonDecreasingBy}
 use Rattle.std.proofs.lemmas.Bool.{cases_lt, cases_order}
 use Rattle.std.proofs.lemmas.Grind.{common_steps}
@@ -187,6 +187,13 @@ sum_by-map f g (x ∷ xs) =
     let b = sum_by-cons (λ x. f (g x)) x xs in
     let c = sum_by-map f g xs in
     omega (arith, a, b, c)
+
+-- A range with one number more.
+pub range_more : (a n : ℕ) → range_with_len a (suc n) ≡ range_with_len a n ++ (a + n) ∷ []
+range_more a zero = ap (λ (x : ℕ). x ∷ []) (let e : a ≡ a + 0 = omega arith in e)
+range_more a (suc n) =
+    ap (λ (l : List ℕ). a ∷ l) (range_more (a + 1) n)
+    ∙ ap (λ (x : ℕ). a ∷ (range_with_len (a + 1) n ++ x ∷ [])) (let e : a + 1 + n ≡ a + suc n = omega arith in e)
 
 -- A list of numbers in which each is less than the next.
 pub rising : (xs : List ℕ) → AllPairs (λ a b. a < b) xs → IsNonDecreasingBy (λ a. a) xs

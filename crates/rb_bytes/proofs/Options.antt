@@ -9,6 +9,10 @@ some_and {A} P o x is holds = subst (λ (o : Option A). IsSomeAnd o P) (sym is) 
 pub of_some : {A : Type 0} (P : A → Type 0) (o : Option A) (x : A) → o ≡ Some x → IsSomeAnd o P → P x
 of_some {A} P o x is holds = subst (λ (o : Option A). IsSomeAnd o P) is holds
 
+pub some_weaker : {A : Type 0} (P Q : A → Type 0) (o : Option A) → ((x : A) → P x → Q x) → IsSomeAnd o P → IsSomeAnd o Q
+some_weaker P Q None weaker holds = absurd holds
+some_weaker P Q (Some x) weaker holds = weaker x holds
+
 -- The value, if the option has one.
 pub the_some : {A : Type 0} (P : A → Type 0) (o : Option A) → IsSomeAnd o P → (x : A) × (o ≡ Some x) × P x
 the_some P None holds = absurd holds

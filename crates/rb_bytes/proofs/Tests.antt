@@ -28,7 +28,10 @@ pub if_not : {C : Type 0} (b : Bool) → IsTrue b ↔ C → IsTrue (not b) ↔ (
 if_not true test = (λ wrong. let never : false ≡ true = wrong in cc, λ wrong. absurd (wrong (test.0 refl)))
 if_not false test = (λ _ is. let never : false ≡ true = test.1 is in cc, λ _. refl)
 
--- A key that differs from the searched one.
+-- The searched key, and a key that differs from it.
+pub at_same : (k : ℕ) → is_at (nat_cmp k) k ≡ true
+at_same k = grind (arith, common_steps)
+
 pub at_key : (k q : ℕ) → k ≢ q → is_at (nat_cmp k) q ≡ false
 at_key k q ne = grind (arith, common_steps)
 
