@@ -31,11 +31,11 @@ impl Hints {
         let base = members.first().copied().unwrap_or(0);
         let shift = shift_for(members, base);
         let mut firsts = Vec::new(alloc);
-        for place in 0..members.len() {
-            let step = (members[place].saturating_sub(base) >> shift) as usize;
+        for index in 0..members.len() {
+            let step = (members[index].saturating_sub(base) >> shift) as usize;
             // Steps that were skipped have no member, and also get this index.
             if firsts.len() <= step {
-                firsts.resize(step.saturating_add(1), place)?;
+                firsts.resize(step.saturating_add(1), index)?;
             }
         }
         Ok(Hints {
