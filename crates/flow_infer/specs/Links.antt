@@ -48,6 +48,7 @@ pub data LeavesBy (func : Func) (i : ℕ) (p : Placed) : Type 0 where
   falls_out : i + 1 ≡ length func.insts.items → IsTrue (falls_at func i p) → LeavesBy func i p
   calls_out : i + 1 ≡ length func.insts.items → IsTrue (is_call (action_at p)) → LeavesBy func i p
 
+-- control can leave the block's function by the block's last instruction
 abbrev pub IsLeft : List Func → Block → Type 0
 IsLeft funcs b = IsSomeAnd (func_of funcs b) (λ func. IsSomeAnd (inst_at func b.last) (LeavesBy func b.last))
 

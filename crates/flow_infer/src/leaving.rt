@@ -10,7 +10,8 @@ use crate::entries::far_target;
 use rv_code::flow::{ends_block, falls, is_call};
 use rv_code::{Func, Inst, Placed, ZERO};
 
-/// Whether control can leave `func` by its instruction with index `place`, which is the last one of a block.
+/// Whether control can leave `func` by its instruction with the index `place` among all of `func`. The instruction is
+/// the last one of a block.
 pub fn leaves(func: &Func, place: usize) -> bool
     requires { place < length func.now.insts.items }
     ensures { IsTrue result ↔ IsSomeAnd (slice_get func.now.insts.items place) (links.LeavesBy func.now place) }
