@@ -4,6 +4,7 @@ ghost use Rattle.std.specs.Prelude.{◌≡◌, ◌≤◌, None, false, [], lengt
 use crate::files::{Files, ReadAll, Wrote};
 use crate::whole_files::{rights_of, write_file};
 use std::fs;
+use std::fs::OpenFile;
 use std::io::Read;
 
 /// The files of the operating system. They are opaque: contracts see no contents. All names, reads and writes share one
@@ -97,6 +98,15 @@ impl<'a, R: std::rt::Files + AllocGlobal> Files for HostFiles<'a, R> {
     }
 }
 
+// How many bytes of room are made before a file is read: its size, if that is within the limit. Other files, such as
+// pipes, have no size.
+fn room_for<F: OpenFile>(file: &F, limit: usize) -> usize {
+    match file.metadata() {
+        Ok(metadata) if metadata.len() <= limit as u64 => metadata.len() as usize,
+        _ => 0,
+    }
+}
+
 // Reads a file piece by piece, and stops once it has more bytes than the limit.
 fn read_file<R: std::rt::Files>(rt: &R, name: &str, limit: usize, into: &mut Vec<u8>) -> ReadAll
     requires { into.old.items ≡ [] }
@@ -105,6 +115,9 @@ fn read_file<R: std::rt::Files>(rt: &R, name: &str, limit: usize, into: &mut Vec
     let Ok(mut file) = fs::open(rt, name) else {
         return ReadAll::Failed;
     };
+    if into.reserve_exact(room_for(&file, limit)).is_err() {
+        return ReadAll::Memory;
+    }
     let mut piece = [0u8; PIECE];
     // No file reaches this bound. It shows that the loop ends.
     for _ in 0..u64::MAX {
