@@ -1,7 +1,7 @@
 -- Headers that are in a file as bytes are read back.
 use Rattle.std.proofs.Common.{◌≡◌, ◌∙◌, sym, ap, subst, refl, ℕ, zero, suc, ◌+◌, ◌*◌, ◌-◌, ◌≤◌, ◌<◌, ◌^◌, List, [], ◌∷◌, ◌++◌}
-use Rattle.std.proofs.Common.{length, take, drop, get_or, arith, length-append}
-use Rattle.std.specs.Prelude.{All}
+use Rattle.std.proofs.Common.{length, take, drop, get_or, arith, length-append, ◌%◌}
+use Rattle.std.specs.Prelude.{All, slice_index_or}
 use Rattle.std.proofs.Math.Seq.{drop-append-add}
 use Rattle.std.proofs.lemmas.List.{append-nil, append_assoc, get_or_append_left, get_or-append_right}
 use Rattle.byteorder.specs.Endian.{little_number, little_bytes}
@@ -192,8 +192,16 @@ length-segment_table (p ∷ ps) =
 
 -- Symbols.
 
-pub symbol_bytes-appended : (xs : List ℕ) (s : SymbolEntry) →
-    (((((xs ++ little_bytes 4 s.name) ++ little_bytes 1 s.info) ++ little_bytes 1 s.other) ++ little_bytes 2 s.section)
-    ++ little_bytes 8 s.value) ++ little_bytes 8 s.size ≡ xs ++ symbol_entry_bytes s
+abbrev at : List ℕ → ℕ → ℕ
+at xs k = slice_index_or xs k 0
+
+-- the bytes of an entry, by the bytes of its fields
+pub symbol_bytes-joined : (s : SymbolEntry) (n e v z : List ℕ) (info other : ℕ) → n ≡ little_bytes 4 s.name →
+    info ≡ s.info % 256 → other ≡ s.other % 256 → e ≡ little_bytes 2 s.section → v ≡ little_bytes 8 s.value →
+    z ≡ little_bytes 8 s.size →
+    at n 0 ∷ at n 1 ∷ at n 2 ∷ at n 3 ∷ info ∷ other ∷ at e 0 ∷ at e 1
+    ∷ at v 0 ∷ at v 1 ∷ at v 2 ∷ at v 3 ∷ at v 4 ∷ at v 5 ∷ at v 6 ∷ at v 7
+    ∷ at z 0 ∷ at z 1 ∷ at z 2 ∷ at z 3 ∷ at z 4 ∷ at z 5 ∷ at z 6 ∷ at z 7 ∷ [] ≡ symbol_entry_bytes s
 unfolding spelled
-symbol_bytes-appended xs s = simp (append_assoc, append-nil)
+symbol_bytes-joined s n e v z info other name is_info is_other section value size =
+    rw (name, is_info, is_other, section, value, size) refl

@@ -4,7 +4,7 @@ ghost use Rattle.elf_parts.specs.Spellings as spec;
 
 use elf_image::{SectionHeader, Segment};
 use rb_bytes::fault::NoMemory;
-use rb_bytes::little::{put_u8, put_u16, put_u32, put_u64};
+use rb_bytes::little::{put_u32, put_u64};
 
 /// An entry of the symbol table, with its fields in the order of the file. gABI, "Symbol Table".
 #[derive(Clone, Copy)]
@@ -90,16 +90,26 @@ pub fn put_sections(out: &mut Vec<u8>, sections: &[SectionHeader]) -> Result<(),
     Ok(())
 }
 
+// The bytes of an entry of the symbol table.
+fn symbol_bytes(s: SymbolEntry) -> [u8; 24]
+    ensures bytes { result ≡ spec.symbol_entry_bytes s }
+    ensures fits { spec.SymbolFits s }
+{
+    let n = s.name.to_le_bytes();
+    let e = s.section.to_le_bytes();
+    let v = s.value.to_le_bytes();
+    let z = s.size.to_le_bytes();
+    [
+        n[0], n[1], n[2], n[3], s.info, s.other, e[0], e[1], v[0], v[1], v[2], v[3], v[4], v[5],
+        v[6], v[7], z[0], z[1], z[2], z[3], z[4], z[5], z[6], z[7],
+    ]
+}
+
 /// Appends an entry of the symbol table.
 pub fn put_symbol(out: &mut Vec<u8>, s: &SymbolEntry) -> Result<(), NoMemory>
     ensures bytes { OnOk result (out.new.items ≡ out.old.items ++ spec.symbol_entry_bytes s.now) }
     ensures fits { OnOk result (spec.SymbolFits s.now) }
 {
-    put_u32(out, s.name)?;
-    put_u8(out, s.info)?;
-    put_u8(out, s.other)?;
-    put_u16(out, s.section)?;
-    put_u64(out, s.value)?;
-    put_u64(out, s.size)?;
+    out.extend_from_slice(&symbol_bytes(*s))?;
     Ok(())
 }
