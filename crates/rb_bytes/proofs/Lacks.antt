@@ -8,23 +8,20 @@ use Rattle.rb_bytes.specs.Text.{hexadecimal, is_lower_hex_digit}
 use Rattle.rb_bytes.proofs.NumberTexts.{hex_lower, decimal_lower}
 
 -- The text doesn't have the byte c.
-pub Lacks : ℕ → List ℕ → Type 0
+abbrev pub Lacks : ℕ → List ℕ → Type 0
 Lacks c [] = Unit {0}
 Lacks c (x ∷ xs) = ((x == c) ≡ false) × Lacks c xs
 
 pub lacks_from : (c : ℕ) (xs : List ℕ) → All (λ x. (x == c) ≡ false) xs → Lacks c xs
-unfolding Lacks
 lacks_from c [] all = tt
 lacks_from c (x ∷ xs) all =
     (All-head (λ y. (y == c) ≡ false) x xs all, lacks_from c xs (All-tail (λ y. (y == c) ≡ false) x xs all))
 
 pub lacks_append : (c : ℕ) (xs ys : List ℕ) → Lacks c xs → Lacks c ys → Lacks c (xs ++ ys)
-unfolding Lacks
 lacks_append c [] ys first second = second
 lacks_append c (x ∷ xs) ys first second = (first.0, lacks_append c xs ys first.1 second)
 
 pub lacks_all : (c : ℕ) (xs : List ℕ) → Lacks c xs → (k d : ℕ) → k < length xs → (get_or xs k d == c) ≡ false
-unfolding Lacks
 lacks_all c [] lacks k d within = absurd (omega arith)
 lacks_all c (x ∷ xs) lacks zero d within = lacks.0
 lacks_all c (x ∷ xs) lacks (suc k) d within = lacks_all c xs lacks.1 k d (omega arith)
@@ -35,7 +32,6 @@ digit_other c d true is other digit = let same = ap is_lower_hex_digit (eqb-true
 digit_other c d false is other digit = refl
 
 pub digits_lack : (c : ℕ) (ds : List ℕ) → is_lower_hex_digit c ≡ false → list_all is_lower_hex_digit ds ≡ true → Lacks c ds
-unfolding Lacks
 digits_lack c [] other all = tt
 digits_lack c (d ∷ ds) other all =
     let parts = and_parts (is_lower_hex_digit d) (list_all is_lower_hex_digit ds) all in

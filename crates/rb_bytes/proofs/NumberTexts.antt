@@ -14,13 +14,10 @@ use Rattle.std.proofs.lemmas.Str.Parse.{digit_from_value}
 use Rattle.rb_bytes.specs.Text.{hexadecimal, is_lower_hex_digit, number_of_digits, hex_number, decimal_number}
 use Rattle.rb_bytes.proofs.DigitValues.{hex_from_decimal}
 use Rattle.rb_bytes.proofs.HexDigits.{quotient-lt}
+use Rattle.rb_bytes.proofs.Tests.{and_false, or_true}
 
 in_range : (low high c : ℕ) → low ≤ c → c ≤ high → is_in_range low high c ≡ true
 in_range low high c from to = rw (le-leb low c from, le-leb c high to) refl
-
-or_true : (b : Bool) → (b || true) ≡ true
-or_true true = refl
-or_true false = refl
 
 -- Digits in base 16.
 
@@ -167,10 +164,6 @@ module _ (n : ℕ) (fits : n < 2 ^ 64) where
 pub zero_text : hexadecimal 0 ≡ 48 ∷ []
 unfolding digits
 zero_text = refl
-
-and_false : (b : Bool) → (b && false) ≡ false
-and_false true = refl
-and_false false = refl
 
 pub positive : (n : ℕ) → n ≢ 0 → 0 < n
 positive n some = ⊎_elim (λ (m : 0 < n). m) (λ (z : n ≤ 0). absurd (some (omega arith))) (cases_lt 0 n)

@@ -1,5 +1,5 @@
 -- Numbers and texts that are written are read back, whatever follows them.
-use Rattle.std.proofs.Common.{◌≡◌, ◌<◌, ◌^◌, ◌+◌, ◌++◌, ℕ, ℤ, List, [], ◌∷◌, Result, Ok, false, refl, sym, ◌∙◌, ap, arith}
+use Rattle.std.proofs.Common.{◌≡◌, ◌<◌, ◌^◌, ◌+◌, ◌++◌, ℕ, ℤ, List, ◌∷◌, Result, Ok, false, refl, sym, ap, arith}
 use Rattle.std.proofs.Common.{length, take, drop, nat_lt, length-append, FitsSigned}
 use Rattle.std.specs.Int.{w64}
 use Rattle.std.proofs.lemmas.Bool.Decides.{nat_tests}

@@ -1,6 +1,6 @@
 -- Unsigned LEB128 numbers: their values, and that the encoding is read back and is the shortest.
-use Rattle.std.proofs.Common.{◌≡◌, ◌≢◌, ◌<◌, ◌≤◌, ◌+◌, ◌-◌, ◌*◌, ◌/◌, ◌%◌, ◌^◌, ℕ, zero, suc, List, [], ◌∷◌, ◌++◌, Bool, true}
-use Rattle.std.proofs.Common.{false, nat_lt, arith, refl, sym, ◌∙◌, ap, take, drop, length, Ok, length-append, length-take}
+use Rattle.std.proofs.Common.{◌≡◌, ◌<◌, ◌≤◌, ◌+◌, ◌-◌, ◌*◌, ◌/◌, ◌%◌, ◌^◌, ℕ, zero, suc, List, [], ◌∷◌, ◌++◌, nat_lt, arith}
+use Rattle.std.proofs.Common.{refl, sym, ◌∙◌, ap, take, drop, length, Ok, length-append, length-take}
 use Rattle.std.proofs.Common.{length-drop, append_assoc}
 use Rattle.std.proofs.lemmas.List.{take_at, drop_at}
 use Rattle.std.proofs.Math.Nat.{pow-succ', pow-zero}
