@@ -1,8 +1,9 @@
 -- No address is in two pairs of the written tables: each is a run's, and runs share none.
-use Rattle.std.proofs.Common.{◌≡◌, ◌∙◌, ◌≤◌, ◌+◌, ◌++◌, ℕ, zero, suc, Bool, true, false, List, [], ◌∷◌, refl, sym, ap, arith}
+use Rattle.std.proofs.Common.{◌≡◌, ◌∙◌, ◌≤◌, ◌+◌, ◌++◌, ℕ, zero, suc, List, [], ◌∷◌, refl, sym, ap, arith}
 use Rattle.std.proofs.Common.{length, map, take, drop}
 use Rattle.std.specs.Prelude.{AllPairs, flat_map}
 use Rattle.std.specs.List.Sorted.{IsPermutation}
+use Rattle.std.proofs.lemmas.Bool.{both_ways}
 use Rattle.std.proofs.lemmas.Grind.{common_steps}
 use Rattle.std.proofs.lemmas.List.{map-append, take-append-drop}
 use Rattle.std.proofs.lemmas.List.Kept.{AllPairs-cons}
@@ -40,16 +41,12 @@ Apart s t = ShareNoAddress (range_of s) (range_of t)
 flip : (s t : Stretch) → Apart s t → Apart t s
 flip s t apart a x y = apart a y x
 
-not_both : (b : Bool) → b ≡ true → b ≡ false → ⊥
-not_both true x y = absurd (cc)
-not_both false x y = absurd (cc)
-
 runs_apart : (lo hi : ℕ) (rs : List (Run ℕ)) → IsWithin lo rs hi
     → AllPairs (λ (r q : Run ℕ). Apart (stretch_of r) (stretch_of q)) rs
 runs_apart lo hi [] w = λ i j d less inside. absurd (omega arith)
 runs_apart lo hi (r ∷ rs) w =
     AllPairs-cons (λ (r q : Run ℕ). Apart (stretch_of r) (stretch_of q)) r rs
-    (λ k d inside a x y. not_both _ x (past r a (runs_say (r.start + r.len) hi a rs w.2 k d inside y).0))
+    (λ k d inside a x y. both_ways _ (past r a (runs_say (r.start + r.len) hi a rs w.2 k d inside y).0) x)
     (runs_apart (r.start + r.len) hi rs w.2)
 
 pub stretches_apart : (hi : ℕ) (rs : List (Run ℕ)) (ss : List Stretch) → IsWithin 0 rs hi → IsPermutation (map stretch_of rs) ss

@@ -1,10 +1,11 @@
 -- The units of runs, in any order of their stretches.
 use Rattle.std.proofs.Common.{◌≡◌, ◌∙◌, ◌<◌, ◌≤◌, ◌+◌, ◌^◌, ℕ, Bool, true, false, cond, List, [], ◌∷◌, Option, Some, None, refl}
 use Rattle.std.proofs.Common.{sym, ap, arith, map, nat_le, nat_lt}
-use Rattle.std.specs.Prelude.{◌&&◌, ◌||◌, All, find, if◌then◌else◌}
+use Rattle.std.specs.Prelude.{◌||◌, All, find, if◌then◌else◌}
 use Rattle.std.specs.List.{list_any}
 use Rattle.std.specs.List.Sorted.{IsPermutation}
 use Rattle.std.specs.Option.{option_or}
+use Rattle.std.proofs.lemmas.Bool.{and_right}
 use Rattle.std.proofs.lemmas.Bool.Decides.{nat_tests}
 use Rattle.std.proofs.lemmas.List.Elements.{All-cons, All-nil, All-head, All-tail, All-map, All-weaker}
 use Rattle.std.proofs.lemmas.List.Sorted.{All-permutation, list_any-IsPermutation}
@@ -46,10 +47,7 @@ low_of r a e = grind (arith, nat_tests)
 
 pub past : (r : Run ℕ) (a : ℕ) → r.start + r.len ≤ a → has a (stretch_of r) ≡ false
 past r a h = let t : nat_lt a (r.start + r.len) ≡ false = grind (arith, nat_tests) in
-    ap (λ (b : Bool). nat_le r.start a && b) t ∙ and_false (nat_le r.start a) where
-      and_false : (b : Bool) → (b && false) ≡ false
-      and_false true = refl
-      and_false false = refl
+    and_right (nat_le r.start a) (nat_lt a (r.start + r.len)) t
 
 pub runs_say : (lo hi a : ℕ) (rs : List (Run ℕ)) → IsWithin lo rs hi → All (Says lo a rs) rs
 runs_say lo hi a [] w = All-nil (Says lo a [])

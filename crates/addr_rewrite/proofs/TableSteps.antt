@@ -91,9 +91,3 @@ taken k s others rest e = let n : k + 1 ≡ suc k = omega arith in (λ i. take (
 
 pub dropped : (k : ℕ) (s : Stretch) (others rest : List Stretch) → rest ≡ s ∷ others → drop (k + 1) rest ≡ drop k others
 dropped k s others rest e = let n : k + 1 ≡ suc k = omega arith in (λ i. drop (n i) (e i))
-
-pub fewer : (k : ℕ) (rest : List Stretch) → length (drop k rest) ≤ length rest
-fewer k rest = grind (arith, common_steps)
-
-pub front_fewer : (k : ℕ) (rest : List Stretch) → length (take k rest) ≤ length rest
-front_fewer k rest = grind (arith, common_steps)

@@ -1,14 +1,14 @@
 -- Written tables are read back.
 use Rattle.std.proofs.Common.{◌≡◌, ◌∙◌, ◌<◌, ◌≤◌, ◌-◌, ◌+◌, ◌*◌, ◌^◌, ◌==◌, ◌&&◌, ◌++◌, ℕ, zero, suc, List, [], ◌∷◌, Bool, false}
-use Rattle.std.proofs.Common.{Some, None, Ok, Result, refl, sym, ap, arith, length, take, drop, map, nat_lt}
-use Rattle.std.proofs.Common.{length-append}
+use Rattle.std.proofs.Common.{Some, None, Ok, Result, refl, ap, arith, length, take, drop, map, length-append}
 use Rattle.std.specs.Prelude.{All, if◌then◌else◌}
 use Rattle.std.proofs.lemmas.Bool.Decides.{nat_tests}
 use Rattle.std.proofs.lemmas.Grind.{common_steps}
 use Rattle.std.proofs.lemmas.List.Elements.{All-cons, All-nil, All-head, All-tail, All-take, All-drop}
 use Rattle.byteorder.specs.Endian.{little_number, little_bytes}
-use Rattle.byteorder.specs.Numbers.{little_number-reads_back, length-bytes_low_first}
-use Rattle.rb_bytes.specs.Readers.{bytes_at, number_read}
+use Rattle.byteorder.specs.Numbers.{little_number-reads_back}
+use Rattle.rb_bytes.specs.Readers.{bytes_at}
+use Rattle.rb_bytes.proofs.SpelledBack.{length-little, number_back, bytes_back}
 use Rattle.answer_runs.specs.declared.range.Range.{Range}
 use Rattle.table_core.specs.WrittenUnits.{IsUnit}
 use Rattle.table_core.specs.ReadSteps.{with_head}
@@ -18,24 +18,6 @@ use Rattle.addr_rewrite.specs.ArangesReading.{pair_at}
 use Rattle.addr_rewrite.specs.WrittenAranges.{count_of, pairs_bytes, table_bytes, tables_of}
 use Rattle.addr_rewrite.specs.declared.stretch.Stretch.{Stretch}
 use Rattle.addr_rewrite.proofs.PairSteps.{by_pair, unfold_pairs}
-
-length-little : (n x : ℕ) → length (little_bytes n x) ≡ n
-length-little n x = length-bytes_low_first 0 n x
-
-number_back : (n x : ℕ) (rest : List ℕ) → x < 256 ^ n → number_read n (little_bytes n x ++ rest) ≡ Ok (x, rest)
-number_back n x rest h =
-    let l : n ≡ length (little_bytes n x) = sym (length-little n x) in
-    let e : little_number n (little_bytes n x ++ rest) ≡ x = little_number-reads_back n x rest h in
-    let r : drop n (little_bytes n x ++ rest) ≡ rest = grind (arith, common_steps) in
-    let t : nat_lt (length (little_bytes n x ++ rest)) n ≡ false = grind (arith, nat_tests, length-append (little_bytes n x) rest) in
-    rw (t, e, r) refl
-
-bytes_back : (bytes rest : List ℕ) → bytes_at (length bytes) (bytes ++ rest) ≡ Ok (bytes, rest)
-bytes_back bytes rest =
-    let s : take (length bytes) (bytes ++ rest) ≡ bytes = grind (arith, common_steps) in
-    let r : drop (length bytes) (bytes ++ rest) ≡ rest = grind (arith, common_steps) in
-    let t : nat_lt (length (bytes ++ rest)) (length bytes) ≡ false = grind (arith, nat_tests, length-append bytes rest) in
-    rw (t, s, r) refl
 
 padding_back : (rest : List ℕ) → bytes_at 4 (little_bytes 4 0 ++ rest) ≡ Ok (little_bytes 4 0, rest)
 padding_back rest = bytes_back (little_bytes 4 0) rest
@@ -150,11 +132,11 @@ front_written : (k : ℕ) (s : Stretch) (ss : List Stretch) → All IsWritten (s
 front_written k s ss are =
     All-cons IsWritten s (take k ss) (All-head IsWritten s ss are) (All-take IsWritten k ss (All-tail IsWritten s ss are))
 
-taken_less : (k : ℕ) (ss : List Stretch) → length (take k ss) ≤ length ss
-taken_less k ss = grind (arith, common_steps)
+pub fewer : (k : ℕ) (ss : List Stretch) → length (drop k ss) ≤ length ss
+fewer k ss = grind (arith, common_steps)
 
-dropped_less : (k : ℕ) (ss : List Stretch) → length (drop k ss) ≤ length ss
-dropped_less k ss = grind (arith, common_steps)
+pub front_fewer : (k : ℕ) (ss : List Stretch) → length (take k ss) ≤ length ss
+front_fewer k ss = grind (arith, common_steps)
 
 pub all_units : (n : ℕ) (ss : List Stretch) → 28 + 16 * length ss < 2 ^ 32 - 1 → All (IsUnit 2) (tables_of n ss)
 unfolding tables_of
@@ -163,8 +145,8 @@ all_units (suc n) [] h = All-nil (IsUnit 2)
 all_units zero (s ∷ ss) h = All-nil (IsUnit 2)
 all_units (suc n) (s ∷ ss) h =
     let k : ℕ = count_of s.unit ss in
-    let less = taken_less k ss in
-    let rest = dropped_less k ss in
+    let less = front_fewer k ss in
+    let rest = fewer k ss in
     All-cons (IsUnit 2) (table_bytes s.unit (s ∷ take k ss)) (tables_of n (drop k ss))
     (table_is_unit s.unit (s ∷ take k ss) (omega (arith, less)))
     (all_units n (drop k ss) (omega (arith, rest)))

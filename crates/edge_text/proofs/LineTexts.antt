@@ -1,38 +1,12 @@
 -- The line of a pair: its fields and its end.
-use Rattle.std.proofs.Common.{◌≡◌, ◌∙◌, ◌<◌, ℕ, suc, zero, Bool, true, false, List, [], ◌∷◌, ◌++◌, length, get_or, arith, refl}
-use Rattle.std.proofs.Common.{ap, sym, append_assoc, append-nil}
+use Rattle.std.proofs.Common.{◌≡◌, ◌∙◌, ℕ, true, List, [], ◌∷◌, ◌++◌, refl, ap, sym, append_assoc, append-nil}
 use Rattle.std.specs.Prelude.{◌==◌}
 use Rattle.std.specs.List.{list_all}
-use Rattle.std.proofs.lemmas.Bool.{eqb-true, and_parts}
 use Rattle.std.proofs.lemmas.List.Splits.{slice_split_none, slice_split_at}
 use Rattle.rb_bytes.specs.Text.{is_lower_hex_digit}
+use Rattle.rb_bytes.proofs.Lacks.{Lacks, lacks_append, lacks_all, digits_lack}
 use Rattle.edge_profile.specs.Grammar.{fields, lines}
 use Rattle.edge_profile.proofs.LineLists.{lines_at}
-
--- a text doesn't contain the byte c
-abbrev Lacks : ℕ → List ℕ → Type 0
-Lacks c [] = Unit {0}
-Lacks c (x ∷ xs) = ((x == c) ≡ false) × Lacks c xs
-
-lacks-append : (c : ℕ) (xs ys : List ℕ) → Lacks c xs → Lacks c ys → Lacks c (xs ++ ys)
-lacks-append c [] ys one other = other
-lacks-append c (x ∷ xs) ys one other = (one.0, lacks-append c xs ys one.1 other)
-
-lacks_all : (c : ℕ) (xs : List ℕ) → Lacks c xs → (k : ℕ) (d : ℕ) → k < length xs → (get_or xs k d == c) ≡ false
-lacks_all c [] lacks k d within = absurd (omega arith)
-lacks_all c (x ∷ xs) lacks zero d within = lacks.0
-lacks_all c (x ∷ xs) lacks (suc k) d within = lacks_all c xs lacks.1 k d (omega arith)
-
--- a byte that isn't a hexadecimal digit isn't in digits
-digit_other : (c d : ℕ) (b : Bool) → (d == c) ≡ b → is_lower_hex_digit c ≡ false → is_lower_hex_digit d ≡ true → b ≡ false
-digit_other c d true is other digit = let same = ap is_lower_hex_digit (eqb-true d c is) in absurd (cc)
-digit_other c d false is other digit = refl
-
-digits_lack : (c : ℕ) (ds : List ℕ) → is_lower_hex_digit c ≡ false → list_all is_lower_hex_digit ds ≡ true → Lacks c ds
-digits_lack c [] other all = tt
-digits_lack c (d ∷ ds) other all =
-    let parts = and_parts (is_lower_hex_digit d) (list_all is_lower_hex_digit ds) all in
-    (digit_other c d (d == c) refl other parts.0, digits_lack c ds other parts.1)
 
 -- a line with these texts of numbers, and the text after it
 abbrev pub line_with : (a b c d e rest : List ℕ) → List ℕ
@@ -76,9 +50,9 @@ module _ (a b c d e : List ℕ) (all_a : list_all is_lower_hex_digit a ≡ true)
           refl,
           (
             refl,
-            lacks-append 10 a (32 ∷ (b ++ 32 ∷ 49 ∷ 32 ∷ 64 ∷ (c ++ 32 ∷ (d ++ 32 ∷ 48 ∷ 32 ∷ (e ++ []))))) (lack a all_a) (
+            lacks_append 10 a (32 ∷ (b ++ 32 ∷ 49 ∷ 32 ∷ 64 ∷ (c ++ 32 ∷ (d ++ 32 ∷ 48 ∷ 32 ∷ (e ++ []))))) (lack a all_a) (
               refl,
-              lacks-append 10 b (32 ∷ 49 ∷ 32 ∷ 64 ∷ (c ++ 32 ∷ (d ++ 32 ∷ 48 ∷ 32 ∷ (e ++ [])))) (lack b all_b) (
+              lacks_append 10 b (32 ∷ 49 ∷ 32 ∷ 64 ∷ (c ++ 32 ∷ (d ++ 32 ∷ 48 ∷ 32 ∷ (e ++ [])))) (lack b all_b) (
                 refl,
                 (
                   refl,
@@ -86,10 +60,10 @@ module _ (a b c d e : List ℕ) (all_a : list_all is_lower_hex_digit a ≡ true)
                     refl,
                     (
                       refl,
-                      lacks-append 10 c (32 ∷ (d ++ 32 ∷ 48 ∷ 32 ∷ (e ++ []))) (lack c all_c) (
+                      lacks_append 10 c (32 ∷ (d ++ 32 ∷ 48 ∷ 32 ∷ (e ++ []))) (lack c all_c) (
                         refl,
-                        lacks-append 10 d (32 ∷ 48 ∷ 32 ∷ (e ++ [])) (lack d all_d)
-                            (refl, (refl, (refl, lacks-append 10 e [] (lack e all_e) tt))),
+                        lacks_append 10 d (32 ∷ 48 ∷ 32 ∷ (e ++ [])) (lack d all_d)
+                            (refl, (refl, (refl, lacks_append 10 e [] (lack e all_e) tt))),
                       ),
                     ),
                   ),

@@ -1,7 +1,8 @@
 use Rattle.std.proofs.Common.{◌≡◌, ◌∙◌, ◌<◌, ◌≤◌, ◌-◌, ◌+◌, ◌*◌, ◌^◌, ◌++◌, ◌∷◌, ℕ, List, ap, arith, drop, length, subst, sym, take}
 use Rattle.addr_rewrite.specs.WrittenAranges.{count_of, spelled_table, spelled_tables, table_bytes, tables_of}
 use Rattle.addr_rewrite.specs.declared.stretch.Stretch.{Stretch}
-use Rattle.addr_rewrite.proofs.TableSteps.{dropped, fewer, front_fewer, no_tables, tables_end, tables_more, taken}
+use Rattle.addr_rewrite.proofs.TableSteps.{dropped, no_tables, tables_end, tables_more, taken}
+use Rattle.addr_rewrite.proofs.TablesBack.{fewer, front_fewer}
 use Rattle.addr_rewrite.proofs.put_tables.put_tables.Goals as goal
 
 pub returns-in-None : goal.returns-in-None
