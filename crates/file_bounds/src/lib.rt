@@ -1,8 +1,8 @@
 //! The bounds of files: past each of them the tool answers out of memory, whatever memory there is.
 //!
 //! A few bytes of a file can ask for any amount of time or memory: tables share their bytes, and one entry refers to
-//! another. No compiler or linker makes a file that meets one of these bounds. `docs/GUARANTEES.md` has them in a table,
-//! in the same order. "A byte" is a byte of the input file.
+//! another. No compiler or linker makes a file that meets one of these bounds. `docs/GUARANTEES.md` has them in a
+//! table, in the same order. "A byte" is a byte of the input file.
 #![tactic(auto)]
 
 // The written file
@@ -66,8 +66,8 @@ pub const ENTRY_RATIO: usize = 56;
 /// Memory for the entries of any unit, in bytes, beside `ENTRY_RATIO`.
 pub const ENTRY_BYTES: usize = 1 << 14;
 
-/// Attributes of a declaration. Compilers list fewer than forty. An attribute may have no bytes in an entry, so an entry
-/// of one byte could take as long to read as its declaration.
+/// Attributes of a declaration. Compilers list fewer than forty. An attribute may have no bytes in an entry, so an
+/// entry of one byte could take as long to read as its declaration.
 pub const ATTRIBUTES: usize = 1 << 8;
 
 /// Bytes of tables of abbreviations that are read again, if tables overlap and none begins at a declaration of another.
@@ -104,8 +104,8 @@ pub const UNIT_WEIGHT_RATIO: u64 = 64;
 /// Weight of the lists and declarations of any file, beside `UNIT_WEIGHT_RATIO`.
 pub const UNIT_WEIGHT: u64 = 1 << 28;
 
-/// Cost of the questions which ranges or lists contain a stretch of new code, with `COST_OF_EACH` more for each group of
-/// ranges or list. Each that may contain a stretch is asked.
+/// Cost of the questions which ranges or lists contain a stretch of new code, with `COST_OF_EACH` more for each group
+/// of ranges or list. Each that may contain a stretch is asked.
 pub const COST: usize = 1 << 23;
 
 /// Cost that each group of ranges or list adds to `COST`.
