@@ -1,13 +1,8 @@
-use Rattle.std.proofs.Common.{sym, rules}
-use Rattle.std.specs.Prelude.{nat_lt}
-use Rattle.std.proofs.lemmas.List.Sorted.{IsPartitionPoint-from_clause, IsPartitionedBy-ltb}
-use Rattle.rb_bytes.proofs.RangeCounts.{count-partition}
+use Rattle.std.proofs.Common.{rules}
+use Rattle.rb_bytes.proofs.PartitionPoints.{count-below}
 use Rattle.area_room.proofs.bounds.count_below.Goals as goal
 
 pub returns : goal.returns
 returns c =
-    let parted = IsPartitionedBy-ltb (λ n. n) c.args.numbers.now c.args.end c.requires in
-    let point = IsPartitionPoint-from_clause (λ n. nat_lt n c.args.end) _ _ c.partition_point.ensures.partitioned parted
-    (λ a r q k. search rules) in
-    sym (count-partition (λ n. nat_lt n c.args.end) c.args.numbers.now c.partition_point.result c.partition_point.ensures.bound
-    (λ i d less. point.0 i d (search rules) less) (λ i d from less. point.1 i d from less))
+    count-below (λ n. n) _ _ _ c.requires c.partition_point.ensures.bound c.partition_point.ensures.partitioned
+    (λ a r q k. search rules)
