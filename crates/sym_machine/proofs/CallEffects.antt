@@ -1,11 +1,11 @@
 -- The outcomes of system calls that read and write, by the tests that the machine makes.
-use Rattle.std.proofs.Common.{◌≡◌, ◌∙◌, ap, sym, refl, ℕ, List, Option, Some, None, Bool, true, false, length, take, drop, append-nil}
+use Rattle.std.proofs.Common.{◌≡◌, refl, ℕ, List, Option, Some, None, Bool, true, false, length, take, drop, append-nil, rules}
 use Rattle.std.specs.Prelude.{◌&&◌, nat_le, nat_lt, if◌then◌else◌, map, min}
 use Rattle.std.specs.List.{list_any}
 use Rattle.std.specs.Io.KnownBytes.{append_known}
 use Rattle.rv_code.specs.machine.Machine.{Call, events, output, Going, Halts, all_may, put, set_register, may_read, may_write}
 use Rattle.rv_code.specs.machine.Machine.{with_break, most_moved, call_of}
-use Rattle.rv_code.specs.machine.Step.{a0, a1, a2, a7}
+use Rattle.rv_code.specs.machine.Step.{a0, a7}
 use Rattle.run_core.specs.States.{Same}
 use Rattle.run_core.proofs.Told.{append_known-nil}
 use Rattle.sym_machine.specs.declared.calls.Buffer.{Buffer}
@@ -33,9 +33,7 @@ three_are s rest (Some x) (Some y) (Some z) = refl
 
 pub arguments_found : (s : SymState) (rest : ℕ → ℕ → ℕ → SymOutcome) (b : Buffer) → buffer_in s.registers ≡ Some b →
     three_arguments s rest ≡ rest b.file b.address b.size
-arguments_found s rest b is =
-    three_are s rest (number (s.registers a0)) (number (s.registers a1)) (number (s.registers a2))
-    ∙ ap (λ o. needs s reason.CallArg o (with_buffer rest)) is
+arguments_found s rest b is = search (rules, three_are)
 
 pub called : (s : SymState) (next n : ℕ) (call : Call) → number (s.registers a7) ≡ Some n → call_of n ≡ call →
     argument s a7 (λ m. calls s next m (call_of m)) ≡ calls s next n call
@@ -107,19 +105,5 @@ break_same s t next to pc registers space input break memory =
     cases : (b : Bool) → t.program_break ≡ (if b then to else s.program_break) → ((q : ℕ) →
         t.memory q ≡ (if b then (if nat_le s.program_break q && nat_lt q to then Byte 0 else s.memory q) else s.memory q)) →
         Same (record (after b) { pc = next; registers = set_register a0 (Num (after b).program_break) (after b).registers }) t
-    cases true break memory = record {
-      pc_is = sym pc;
-      registers_are = λ r. ap (λ n. set_register a0 (Num n) s.registers r) (sym break) ∙ registers r;
-      memory_is = λ q. sym (memory q);
-      space_is = space;
-      break_is = sym break;
-      input_is = input;
-    }
-    cases false break memory = record {
-      pc_is = sym pc;
-      registers_are = λ r. ap (λ n. set_register a0 (Num n) s.registers r) (sym break) ∙ registers r;
-      memory_is = λ q. sym (memory q);
-      space_is = space;
-      break_is = sym break;
-      input_is = input;
-    }
+    cases true break memory = search rules
+    cases false break memory = search rules

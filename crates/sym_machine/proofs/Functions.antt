@@ -1,9 +1,9 @@
 -- Looking up instructions of functions by their addresses: each is found, and nothing besides them.
-use Rattle.std.proofs.Common.{◌≡◌, ◌∙◌, sym, subst, ap, refl, ℕ, zero, suc, ◌-◌, ◌<◌, ◌≤◌, ◌⊎◌, inl, inr, ⊎_elim, true}
+use Rattle.std.proofs.Common.{◌≡◌, ◌∙◌, sym, subst, ap, refl, ℕ, zero, suc, ◌-◌, ◌<◌, ◌≤◌, ◌⊎◌, inl, inr, ⊎_elim, rules}
 use Rattle.std.proofs.Common.{false, List, [], ◌∷◌, ◌++◌, Option, Some, None, IfSome, IfNone, length, slice_index_or, arith}
 use Rattle.std.specs.Prelude.{Contains, ◌==◌, is_some}
 use Rattle.std.specs.Option.{option_or}
-use Rattle.std.proofs.lemmas.Bool.{cases_lt, cases_order, eq-eqb, eqb-true, false_from_ne_true}
+use Rattle.std.proofs.lemmas.Bool.{cases_lt, eq-eqb, eqb-true, false_from_ne_true}
 use Rattle.std.proofs.lemmas.List.{get_or_default}
 use Rattle.std.proofs.lemmas.List.Elements.{Contains-append_left, Contains-append_right, Contains-append_cases, Contains-get_or}
 use Rattle.rv_code.specs.declared.placed.Placed.{Placed}
@@ -30,27 +30,13 @@ searchable funcs are = record {
 -- functions are in order of their starts
 pub starts_rise : (funcs : List Func) → IsSearchable funcs → (i j : ℕ) (d : Func) → i ≤ j → j < length funcs →
     (slice_index_or funcs i d).start ≤ (slice_index_or funcs j d).start
-starts_rise funcs s i j d upto within =
-    ⊎_elim
-    (λ (less : i < j). let first = s.ordered i d (omega arith) in let next = s.apart i j d less within in omega arith)
-    (λ (more : j ≤ i).
-    let e : i ≡ j = omega arith in
-    let same = ap (λ (k : ℕ). (slice_index_or funcs k d).start) e in
-    omega arith)
-    (cases_lt i j)
+starts_rise funcs s i j d upto within = search rules
 
 -- a function's instructions are in order of their addresses
 pub addrs_rise : (insts : List Placed) →
     ((i j : ℕ) (e : Placed) → i < j → j < length insts → (slice_index_or insts i e).addr < (slice_index_or insts j e).addr) →
     (i j : ℕ) (e : Placed) → i ≤ j → j < length insts → (slice_index_or insts i e).addr ≤ (slice_index_or insts j e).addr
-addrs_rise insts rising i j e upto within =
-    ⊎_elim
-    (λ (less : i < j). let up = rising i j e less within in omega arith)
-    (λ (more : j ≤ i).
-    let same : i ≡ j = omega arith in
-    let is = ap (λ (k : ℕ). (slice_index_or insts k e).addr) same in
-    omega arith)
-    (cases_lt i j)
+addrs_rise insts rising i j e upto within = search rules
 
 -- Lists of lists.
 
@@ -105,39 +91,21 @@ module _ (funcs : List Func) (s : IsSearchable funcs) where
   one_func : (f i g j a : ℕ) (d : Func) (e : Placed) → f < length funcs → i < length (insts_at funcs f d) → g < length funcs →
       j < length (insts_at funcs g d) →
       (slice_index_or (insts_at funcs f d) i e).addr ≡ a → (slice_index_or (insts_at funcs g d) j e).addr ≡ a → f < g → ⊥
-  one_func f i g j a d e within inside within' inside' at at' less =
-      let high = s.to f i d e within inside in
-      let between = s.apart f g d less within' in
-      let low = s.from g j d e within' inside' in
-      omega arith
+  one_func f i g j a d e within inside within' inside' at at' less = search rules
 
   one_inst : (f i j a : ℕ) (d : Func) (e : Placed) → f < length funcs → j < length (insts_at funcs f d) →
       (slice_index_or (insts_at funcs f d) i e).addr ≡ a → (slice_index_or (insts_at funcs f d) j e).addr ≡ a → i < j → ⊥
-  one_inst f i j a d e within inside at at' less =
-      let up = s.rising f i j d e within less inside in
-      omega arith
+  one_inst f i j a d e within inside at at' less = search rules
 
   same_func : (f i g j a : ℕ) (d : Func) (e : Placed) → f < length funcs → i < length (insts_at funcs f d) → g < length funcs →
       j < length (insts_at funcs g d) →
       (slice_index_or (insts_at funcs f d) i e).addr ≡ a → (slice_index_or (insts_at funcs g d) j e).addr ≡ a → f ≡ g
-  same_func f i g j a d e within inside within' inside' at at' = elim (cases_order f g) [
-    | inl same ↦ same
-    | inr apart ↦ elim apart [
-      | inl less ↦ absurd (one_func f i g j a d e within inside within' inside' at at' less)
-      | inr more ↦ absurd (one_func g j f i a d e within' inside' within inside at' at more)
-    ]
-  ]
+  same_func f i g j a d e within inside within' inside' at at' = search (rules, one_func)
 
   same_inst : (f i j a : ℕ) (d : Func) (e : Placed) → f < length funcs → i < length (insts_at funcs f d) →
       j < length (insts_at funcs f d) →
       (slice_index_or (insts_at funcs f d) i e).addr ≡ a → (slice_index_or (insts_at funcs f d) j e).addr ≡ a → i ≡ j
-  same_inst f i j a d e within inside inside' at at' = elim (cases_order i j) [
-    | inl same ↦ same
-    | inr apart ↦ elim apart [
-      | inl less ↦ absurd (one_inst f i j a d e within inside' at at' less)
-      | inr more ↦ absurd (one_inst f j i a d e within inside at' at more)
-    ]
-  ]
+  same_inst f i j a d e within inside inside' at at' = search (rules, one_inst)
 
   -- the instruction with these indices is the one that starts at its address
   pub placed_at-found : (f i a : ℕ) → IsInstPlace funcs a f i → (d : Func) (e : Placed) →
@@ -219,20 +187,7 @@ pub none_in : (insts : List Placed) (a below : ℕ) →
     ((k : ℕ) (e : Placed) → below ≤ k → k < length insts → a < (slice_index_or insts k e).addr) →
     ((e : Placed) → 0 < below → (slice_index_or insts (below - 1) e).addr ≡ a → ⊥) →
     (j : ℕ) (e : Placed) → j < length insts → (slice_index_or insts j e).addr ≡ a → ⊥
-none_in insts a below rising bound low high last j e inside at =
-    ⊎_elim
-    (λ (less : j < below - 1).
-    let up = rising j (below - 1) e less (omega arith) in
-    let upto = low (below - 1) e (omega arith) in
-    omega arith)
-    (λ (more : below - 1 ≤ j).
-    ⊎_elim
-    (λ (before : j < below).
-    let same : j ≡ below - 1 = omega arith in
-    last e (omega arith) (subst (λ k. (slice_index_or insts k e).addr ≡ a) same at))
-    (λ (after : below ≤ j). let past = high j e after inside in omega arith)
-    (cases_lt j below))
-    (cases_lt j (below - 1))
+none_in insts a below rising bound low high last j e inside at = search rules
 
 -- Nothing is found if, in the last function that starts at or below an address, the last instruction that starts at or below it starts at
 -- another address.
@@ -282,9 +237,7 @@ next_in-found : (insts : List Placed) (i a : ℕ) →
 next_in-found [] i a rising within at = absurd (omega (arith, within))
 next_in-found (p ∷ []) zero a rising within at = refl
 next_in-found (p ∷ []) (suc i) a rising within at = absurd (omega (arith, within))
-next_in-found (p ∷ q ∷ ps) zero a rising within at =
-    let here : (p.addr == a) ≡ true = eq-eqb p.addr a (at p) in
-    rw here refl
+next_in-found (p ∷ q ∷ ps) zero a rising within at = search (rules, eq-eqb)
 next_in-found (p ∷ q ∷ ps) (suc i) a rising within at =
     let up = rising zero (suc i) p (omega arith) (omega (arith, within)) in
     let there = at p in

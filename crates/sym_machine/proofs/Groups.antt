@@ -1,5 +1,6 @@
 -- The bytes of groups, before and after a write.
-use Rattle.std.proofs.Common.{◌≡◌, ◌∙◌, sym, ap, refl, ℕ, ◌+◌, ◌*◌, ◌/◌, ◌%◌, ◌≤◌, ◌<◌, Bool, true, false, List, [], ◌∷◌, ◌++◌}
+use Rattle.std.proofs.lemmas.Grind.{common_steps}
+use Rattle.std.proofs.Common.{◌≡◌, ◌∙◌, sym, ap, refl, ℕ, ◌+◌, ◌*◌, ◌/◌, ◌%◌, ◌≤◌, ◌<◌, Bool, true, false, List, [], ◌∷◌, ◌++◌, rules}
 use Rattle.std.proofs.Common.{length, get_or, Option, Some, None, arith, inl, inr, length-append}
 use Rattle.std.specs.Prelude.{◌&&◌, ◌==◌, nat_le, nat_lt, if◌then◌else◌, option_map, slice_set}
 use Rattle.std.specs.Option.{option_and_then, is_some}
@@ -29,10 +30,7 @@ other_byte-some others a i found = rw found refl
 
 pub in_groups : (others : OtherBytes) (a i : ℕ) → place_of others.index (a / 8) ≡ Some i →
     i * 8 + a % 8 < length others.slots.items
-in_groups others a i found =
-    let here : i < length others.numbers.items = others.held (a / 8) i found in
-    let size : length others.slots.items ≡ length others.numbers.items * 8 = others.sized in
-    omega arith
+in_groups others a i found = search rules
 
 pub none_of_false : {A : Type 0} (o : Option A) → is_some o ≡ false → o ≡ None
 none_of_false None e = refl
@@ -111,13 +109,7 @@ marked_more numbers recent n k size marked at i within = cases (get_or (numbers 
 
     cases : (t : Bool) → (get_or (numbers ++ n ∷ []) i 0 % 8192 == k) ≡ t →
         0 < get_or (slice_set recent k (length numbers + 1)) (get_or (numbers ++ n ∷ []) i 0 % 8192) 0
-    cases true test =
-        let same = eqb-true _ k test in
-        let is : get_or (slice_set recent k (length numbers + 1))
-        (get_or (numbers ++ n ∷ []) i 0 % 8192) 0 ≡ length numbers + 1 =
-        ap (λ (x : ℕ). get_or (slice_set recent k (length numbers + 1)) x 0) same
-        ∙ get_or-set_same recent k (length numbers + 1) 0 (omega arith) in
-        omega arith
+    cases true test = search (rules, eqb-true, get_or-set_same)
     cases false test =
         let apart = eqb-false _ k test in
         let is : get_or (slice_set recent k (length numbers + 1)) (get_or (numbers ++ n ∷ []) i 0 % 8192) 0
@@ -158,9 +150,7 @@ pub byte_in-added : (old : OtherBytes) (index : PageIndex) (slots : List (Option
     ((q : ℕ) → place_of index q ≡ (if q == n then Some (length old.numbers.items) else place_of old.index q)) →
     slots ≡ old.slots.items ++ more → ((k : ℕ) → get_or more k None ≡ None) → (q : ℕ) → byte_in index slots q ≡ other_byte old q
 unfolding byte_in
-byte_in-added old index slots n more absent is added empty q =
-    rw added (group_added (place_of old.index)
-    (place_of index) old.numbers.items old.slots.items more n old.held absent is old.sized empty q)
+byte_in-added old index slots n more absent is added empty q = grind (arith, common_steps, group_added)
 
 -- Runs that are cleared.
 
@@ -179,25 +169,12 @@ in_run-past from to q high = false_from_ne_true (in_run from to q)
     (λ e. let to_is = ltb-true q to (and_parts (nat_le from q) (nat_lt q to) e).1 in omega arith)
 
 pub cleared_none : (x : Option OtherByte) (from to q : ℕ) → to ≤ from → x ≡ (if nat_le from q && nat_lt q to then None else x)
-cleared_none x from to q back = elim (cases_lt q from) [
-  | inl low ↦ rw (in_run-below from to q low) refl
-  | inr high ↦ rw (in_run-past from to q (omega arith)) refl
-]
+cleared_none x from to q back = search (rules, in_run-below, in_run-past)
 
 pub cleared_join : (x : Option OtherByte) (from at to q : ℕ) → from ≤ at → at ≤ to →
     (if nat_le at q && nat_lt q to then None else (if nat_le from q && nat_lt q at then None else x))
     ≡ (if nat_le from q && nat_lt q to then None else x)
-cleared_join x from at to q first second = elim (cases_lt q from) [
-  | inl low ↦ rw (in_run-below at to q (omega arith), in_run-below from at q low, in_run-below from to q low) refl
-  | inr high ↦ elim (cases_lt q at) [
-    | inl before ↦
-        rw (in_run-below at to q before, in_run-true from at q high before, in_run-true from to q high (omega arith)) refl
-    | inr after ↦ elim (cases_lt q to) [
-      | inl within ↦ rw (in_run-true at to q after within, in_run-true from to q high within) refl
-      | inr past ↦ rw (in_run-past at to q past, in_run-past from at q after, in_run-past from to q past) refl
-    ]
-  ]
-]
+cleared_join x from at to q first second = search (rules, in_run-below, in_run-true, in_run-past)
 
 pub cleared_one : (x : Option OtherByte) (from at q : ℕ) → from ≤ at →
     (if q == at then None else (if nat_le from q && nat_lt q at then None else x))
@@ -220,13 +197,7 @@ cleared_one x from at q first = cases (q == at) refl
 -- a run of addresses without bytes is already cleared
 pub cleared_nothing : (others : OtherBytes) (from to : ℕ) → ((q : ℕ) → from ≤ q → q < to → other_byte others q ≡ None) → (q : ℕ) →
     other_byte others q ≡ cleared_between others from to q
-cleared_nothing others from to none q = elim (cases_lt q from) [
-  | inl low ↦ rw (in_run-below from to q low) refl
-  | inr high ↦ elim (cases_lt q to) [
-    | inl within ↦ rw (in_run-true from to q high within) (none q high within)
-    | inr past ↦ rw (in_run-past from to q past) refl
-  ]
-]
+cleared_nothing others from to none q = search (rules, in_run-below, in_run-true, in_run-past)
 
 pub map_if : (t : Bool) (x : OtherByte) (o : Option OtherByte) →
     option_map as_byte (if t then Some x else o) ≡ (if t then Some (as_byte x) else option_map as_byte o)

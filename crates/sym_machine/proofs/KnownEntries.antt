@@ -1,5 +1,5 @@
 -- The cache of instructions: its entries, and a step by one of them.
-use Rattle.std.proofs.Common.{◌≡◌, ◌∙◌, ◌<◌, ℕ, List, Option, Some, None, sym, ap, refl, subst, arith, length, get_or}
+use Rattle.std.proofs.Common.{◌≡◌, ◌∙◌, ◌<◌, ℕ, List, Option, Some, None, sym, ap, refl, length, get_or, rules}
 use Rattle.std.specs.Prelude.{replicate, option_map}
 use Rattle.std.proofs.lemmas.List.{get_or-replicate, length-replicate}
 use Rattle.std.proofs.lemmas.Option.{none-some, same_Some}
@@ -18,10 +18,7 @@ use Rattle.sym_machine.specs.internal.KnownInsts.{decoded_inst, IsKnown}
 -- a cache whose entries are all equal, and correct
 pub known_entries : (funcs : List Func) (entries : List KnownInst) (n : ℕ) (e : KnownInst) →
     entries ≡ replicate n e → IsKnown funcs e → (k : ℕ) (d : KnownInst) → k < length entries → IsKnown funcs (get_or entries k d)
-known_entries funcs entries n e is known k d within =
-    let size : length entries ≡ n = ap length is ∙ length-replicate n e in
-    let here : get_or entries k d ≡ e = ap (λ xs. get_or xs k d) is ∙ get_or-replicate n k e d (omega arith) in
-    subst (IsKnown funcs) (sym here) known
+known_entries funcs entries n e is known k d within = search (rules, length-replicate, get_or-replicate)
 
 -- a cached action is the action of some instruction
 pub decoded_action : (o : Option Placed) (d : Decoded) → option_map decoded_inst o ≡ Some d →

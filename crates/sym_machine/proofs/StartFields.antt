@@ -1,11 +1,11 @@
 -- Hidden fields: the addresses at which they are loaded, and their lists.
-use Rattle.std.proofs.Common.{◌≡◌, ◌∙◌, ap, refl, sym, subst, ℕ, ◌+◌, ◌-◌, ◌*◌, ◌^◌, ◌<◌, ◌≤◌, ◌⊎◌, inl, inr, ⊎_elim, Bool}
+use Rattle.std.proofs.Common.{◌≡◌, ◌∙◌, ap, refl, sym, subst, ℕ, ◌+◌, ◌-◌, ◌*◌, ◌^◌, ◌<◌, ◌≤◌, ◌⊎◌, inl, inr, ⊎_elim, Bool, rules}
 use Rattle.std.proofs.Common.{true, false, List, [], ◌∷◌, ◌++◌, Option, Some, None, arith, map, length, take, get_or}
 use Rattle.std.specs.Prelude.{◌&&◌, ◌||◌, ◌==◌, nat_le, nat_lt, min, Contains, find, if◌then◌else◌, is_none, flat_map}
 use Rattle.std.specs.List.{list_any, enumerate_from}
 use Rattle.std.specs.Option.{option_and_then, option_map_or}
 use Rattle.std.proofs.lemmas.List.{take_more}
-use Rattle.std.proofs.lemmas.Bool.{and_parts, and_from, leb-true, ltb-true, lt-ltb, le-leb, or_cases}
+use Rattle.std.proofs.lemmas.Bool.{and_parts, and_from, leb-true, ltb-true, lt-ltb, le-leb, or_cases, or_left, or_right}
 use Rattle.elf_image.specs.declared.elf.Elf.{Elf}
 use Rattle.elf_image.specs.declared.segment.Segment.{Segment}
 use Rattle.elf_image.specs.memory.Image.{is_load, has_memory, end_of, loads_address, segment_of}
@@ -14,6 +14,7 @@ use Rattle.elf_image.specs.declared.segment.TheConstants.{PHDR_SIZE, PT_GNU_EH_F
 use Rattle.elf_image.specs.memory.CodeSegment.{executable_end}
 use Rattle.elf_image.specs.memory.LoadedBytes.{Range, address_of, loads_range, file_offset, offset_in, is_in_range}
 use Rattle.rb_bytes.proofs.Searches.{find-found}
+use Rattle.rb_bytes.proofs.Tests.{bool_same}
 use Rattle.elf_image.specs.memory.HiddenFields.{only, section_fields, e_entry_field, e_phoff_field, e_phnum_field}
 use Rattle.elf_image.specs.memory.HiddenFields.{p_offset_field, size_fields, place_fields, is_executable_segment}
 use Rattle.elf_image.specs.memory.HiddenFields.{hidden_in_segment, is_hidden_field, hidden_fields}
@@ -34,20 +35,11 @@ pub record EntryLies (p : Segment) : Type 0 where
 
 pub entry_lies : (segments : List Segment) (p : Segment) → AreLow segments →
     find (loads_range e_entry_field) segments ≡ Some p → EntryLies p
-entry_lies segments p low is =
-    let found = find-found (loads_range e_entry_field) segments p is in
-    let parts = and_parts (is_load p && nat_le p.offset 24) (nat_le 32 (p.offset + min p.filesz p.memsz)) found.0 in
-    let first = and_parts (is_load p) (nat_le p.offset 24) parts.0 in
-    let before : p.offset ≤ 24 = leb-true p.offset 24 first.1 in
-    let whole : 32 ≤ p.offset + min p.filesz p.memsz = leb-true 32 (p.offset + min p.filesz p.memsz) parts.1 in
-    let end : end_of p ≤ 2 ^ 63 = low.each p found.1 (some_memory p first.0 (omega arith)) in
-    record { before = before; low = omega arith }
+entry_lies segments p low is = search (rules, find-found, and_parts, leb-true, some_memory)
 
 pub segment_low : (segments : List Segment) (p : Segment) (i : ℕ) → AreLow segments → Contains segments p → is_load p ≡ true →
     i < min p.filesz p.memsz → p.vaddr + i < 2 ^ 63
-segment_low segments p i low one load within =
-    let end : end_of p ≤ 2 ^ 63 = low.each p one (some_memory p load (omega arith)) in
-    omega arith
+segment_low segments p i low one load within = search (rules, some_memory)
 
 -- Hidden fields are in the headers.
 
@@ -57,9 +49,7 @@ data IsInTables (elf : Elf) (n o : ℕ) : Type 0 where
   table : elf.phoff ≤ o → o < elf.phoff + PHDR_SIZE * n → IsInTables elf n o
 
 pub in_range : (o : ℕ) (range : Range) → is_in_range o range ≡ true → (range.start ≤ o) × (o < range.start + range.size)
-in_range o range is =
-    let parts = and_parts (nat_le range.start o) (nat_lt o (range.start + range.size)) is in
-    (leb-true range.start o parts.0, ltb-true o (range.start + range.size) parts.1)
+in_range o range is = search (rules, and_parts, leb-true, ltb-true)
 
 any-append : (o : ℕ) (xs ys : List Range) → list_any (is_in_range o) (xs ++ ys) ≡ true →
     (list_any (is_in_range o) xs ≡ true) ⊎ (list_any (is_in_range o) ys ≡ true)
@@ -70,17 +60,11 @@ any-append o (x ∷ xs) ys is =
     ⊎_elim (λ (first : list_any (is_in_range o) xs ≡ true). inl (or_right (is_in_range o x) _ first))
     (λ (second : list_any (is_in_range o) ys ≡ true). inr second) (any-append o xs ys rest))
     (or_cases (is_in_range o x) (list_any (is_in_range o) (xs ++ ys)) is)
-  where
-    or_right : (a b : Bool) → b ≡ true → (a || b) ≡ true
-    or_right true b e = refl
-    or_right false b e = e
 
 any-only : (o : ℕ) (test : Bool) (range : Range) → list_any (is_in_range o) (only test range) ≡ true →
     (range.start ≤ o) × (o < range.start + range.size)
 any-only o false range is = absurd (cc)
-any-only o true range is =
-    ⊎_elim (λ (here : is_in_range o range ≡ true). in_range o range here) (λ (there : false ≡ true). absurd (cc))
-    (or_cases (is_in_range o range) false is)
+any-only o true range is = search (rules, in_range, or_cases)
 
 -- the hidden fields of one program header, by the reason for which they are hidden
 abbrev header_at : Elf → ℕ → ℕ
@@ -177,11 +161,7 @@ found_in test (s ∷ ss) q p is passes = by (loads_address q s) is (λ later. fo
     by : (t : Bool) → (if t then Some s else find (loads_address q) ss) ≡ Some p →
         (find (loads_address q) ss ≡ Some p → list_any test ss ≡ true) → (test s || list_any test ss) ≡ true
     by true first rest = let same : s ≡ p = cc in rw (ap test same ∙ passes) refl
-    by false later rest = or_true (test s) (list_any test ss) (rest later)
-      where
-        or_true : (a b : Bool) → b ≡ true → (a || b) ≡ true
-        or_true true b e = refl
-        or_true false b e = e
+    by false later rest = or_right (test s) (list_any test ss) (rest later)
 
 abbrev offset_of : ℕ → Segment → ℕ
 offset_of q p = p.offset + (q - p.vaddr)
@@ -197,18 +177,10 @@ header_covered elf q p here (header low) =
     let inside = and_from (nat_le 0 (offset_of q p)) (nat_lt (offset_of q p) header_size)
     (le-leb 0 (offset_of q p) (omega arith)) (lt-ltb (offset_of q p) header_size low) in
     or_left _ _ (and_from (covers q p) (nat_le 0 (offset_of q p) && nat_lt (offset_of q p) header_size) here inside)
-  where
-    or_left : (a b : Bool) → a ≡ true → (a || b) ≡ true
-    or_left true b e = refl
-    or_left false b e = absurd (cc)
 header_covered elf q p here (table from to) =
-    or_true _ _ (and_from (covers q p) (nat_le elf.phoff (offset_of q p) && nat_lt (offset_of q p) (table_end elf)) here
+    or_right _ _ (and_from (covers q p) (nat_le elf.phoff (offset_of q p) && nat_lt (offset_of q p) (table_end elf)) here
     (and_from (nat_le elf.phoff (offset_of q p)) (nat_lt (offset_of q p) (table_end elf)) (le-leb elf.phoff (offset_of q p) from)
     (lt-ltb (offset_of q p) (table_end elf) to)))
-  where
-    or_true : (a b : Bool) → b ≡ true → (a || b) ≡ true
-    or_true true b e = refl
-    or_true false b e = e
 
 covered_all : (elf : Elf) (q o : ℕ) → file_offset elf.segments.items q ≡ Some o →
     IsInTables elf (length elf.segments.items) o → list_any (covers_header elf q) elf.segments.items ≡ true
@@ -270,24 +242,10 @@ hidden_everywhere {A} elf tight q x old = by (is_hidden_field elf tight q) refl
 pub covers_between-run : (from to q : ℕ) (p : Segment) → is_load p ≡ true → (end : ℕ) →
     end ≡ min (to - p.offset) (min p.filesz p.memsz) →
     (nat_le (p.vaddr + (from - p.offset)) q && nat_lt q (p.vaddr + end)) ≡ covers_between from to q p
-covers_between-run from to q p load end is = same_bool _ _ forth back
+covers_between-run from to q p load end is = bool_same _ _ forth back
   where
-    same_bool : (a b : Bool) → (a ≡ true → b ≡ true) → (b ≡ true → a ≡ true) → a ≡ b
-    same_bool true b f g = sym (f refl)
-    same_bool false true f g = g refl
-    same_bool false false f g = refl
-
     forth : (nat_le (p.vaddr + (from - p.offset)) q && nat_lt q (p.vaddr + end)) ≡ true → covers_between from to q p ≡ true
-    forth run =
-        let parts = and_parts (nat_le (p.vaddr + (from - p.offset)) q) (nat_lt q (p.vaddr + end)) run in
-        let low = leb-true (p.vaddr + (from - p.offset)) q parts.0 in
-        let high = ltb-true q (p.vaddr + end) parts.1 in
-        and_from (covers q p) (nat_le from (offset_of q p) && nat_lt (offset_of q p) to)
-        (and_from (is_load p) (nat_le p.vaddr q && nat_lt q (p.vaddr + min p.filesz p.memsz)) load
-        (and_from (nat_le p.vaddr q) (nat_lt q (p.vaddr + min p.filesz p.memsz)) (le-leb p.vaddr q (omega (arith, low)))
-        (lt-ltb q (p.vaddr + min p.filesz p.memsz) (omega (arith, high, is)))))
-        (and_from (nat_le from (offset_of q p)) (nat_lt (offset_of q p) to) (le-leb from (offset_of q p) (omega
-        (arith, low))) (lt-ltb (offset_of q p) to (omega (arith, low, high, is))))
+    forth run = search (rules, and_parts, leb-true, ltb-true, and_from, le-leb, lt-ltb)
 
     back : covers_between from to q p ≡ true → (nat_le (p.vaddr + (from - p.offset)) q && nat_lt q (p.vaddr + end)) ≡ true
     back covered =

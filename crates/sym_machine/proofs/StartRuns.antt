@@ -1,15 +1,12 @@
 -- Runs of bytes that are put or hidden one by one.
-use Rattle.std.proofs.Common.{◌≡◌, refl, ℕ, ◌+◌, Bool, true, false, Option, arith, inl, inr}
+use Rattle.std.proofs.Common.{◌≡◌, refl, ℕ, ◌+◌, Bool, true, false, Option, arith, inl, inr, rules}
 use Rattle.std.specs.Prelude.{◌&&◌, ◌==◌, nat_le, nat_lt, if◌then◌else◌}
 use Rattle.std.proofs.lemmas.Bool.{eqb-true, eqb-false, cases_lt}
 use Rattle.sym_machine.proofs.Groups.{in_run-true, in_run-below, in_run-past}
 
 -- an empty run
 pub run_none : {A : Type 0} (x old : Option A) (from q : ℕ) → old ≡ (if nat_le from q && nat_lt q (from + 0) then x else old)
-run_none x old from q = elim (cases_lt q from) [
-  | inl low ↦ rw (in_run-below from (from + 0) q low) refl
-  | inr high ↦ rw (in_run-past from (from + 0) q (omega arith)) refl
-]
+run_none x old from q = search (rules, in_run-below, in_run-past)
 
 -- a run with one more byte at its end
 pub run_more : {A : Type 0} (x y old : Option A) (from i q : ℕ) → (q ≡ from + i → x ≡ y) →

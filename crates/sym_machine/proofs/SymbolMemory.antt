@@ -1,5 +1,5 @@
 -- The bytes of memory with numbers in pages and other bytes, also after each way of writing.
-use Rattle.std.proofs.Common.{◌≡◌, ◌∙◌, sym, ap, refl, ℕ, zero, suc, ◌+◌, ◌-◌, ◌<◌, Bool, true, false, List, [], ◌∷◌, length}
+use Rattle.std.proofs.Common.{◌≡◌, ◌∙◌, ap, refl, ℕ, zero, suc, ◌+◌, ◌-◌, ◌<◌, Bool, true, false, List, [], ◌∷◌, length, rules}
 use Rattle.std.proofs.Common.{Option, Some, None, arith}
 use Rattle.std.specs.Prelude.{◌&&◌, ◌||◌, ◌==◌, not, nat_le, nat_lt, if◌then◌else◌, replicate, is_none, map}
 use Rattle.std.specs.List.{list_any}
@@ -37,11 +37,7 @@ bytes_cons y w i Hidden cs = refl
 pub bytes_step : (memory : ℕ → MemoryByte) (y : CodeSymbol) (w i a n : ℕ) → 0 < n →
     are_symbol_bytes y w i (memory_bytes memory a n) ≡ is_byte_of (memory a) y w i
     && are_symbol_bytes y w (i + 1) (memory_bytes memory (plus a 1) (n - 1))
-bytes_step memory y w i a n some =
-    let next : i + 1 ≡ suc i = omega arith in
-    ap (are_symbol_bytes y w i) (memory_step memory a n some)
-    ∙ bytes_cons y w i (memory a) (memory_bytes memory (plus a 1) (n - 1))
-    ∙ ap (λ (k : ℕ). is_byte_of (memory a) y w i && are_symbol_bytes y w k (memory_bytes memory (plus a 1) (n - 1))) (sym next)
+bytes_step memory y w i a n some = search (rules, memory_step, bytes_cons)
 
 -- the symbol of the first byte, if the other bytes follow it
 abbrev followed : Option SymbolBytes → List MemoryByte → Option SymbolBytes
@@ -55,20 +51,13 @@ symbol_cons Hidden cs = refl
 
 pub symbol_none : (memory : ℕ → MemoryByte) (a n : ℕ) → 0 < n → symbol_byte (memory a) ≡ None →
     symbol_in (memory_bytes memory a n) ≡ None
-symbol_none memory a n some none =
-    ap symbol_in (memory_step memory a n some) ∙ symbol_cons (memory a) (memory_bytes memory (plus a 1) (n - 1))
-    ∙ ap (λ o. followed o (memory_bytes memory (plus a 1) (n - 1))) none
+symbol_none memory a n some none = search (rules, memory_step, symbol_cons)
 
 pub symbol_some : (memory : ℕ → MemoryByte) (a n : ℕ) (b : SymbolBytes) (follow : Bool) → 0 < n →
     symbol_byte (memory a) ≡ Some b →
     are_symbol_bytes b.symbol b.width (b.first + 1) (memory_bytes memory (plus a 1) (n - 1)) ≡ follow →
     symbol_in (memory_bytes memory a n) ≡ (if follow then Some b else None)
-symbol_some memory a n b follow some is follow_is =
-    let next : suc b.first ≡ b.first + 1 = omega arith in
-    ap symbol_in (memory_step memory a n some) ∙ symbol_cons (memory a) (memory_bytes memory (plus a 1) (n - 1))
-    ∙ ap (λ o. followed o (memory_bytes memory (plus a 1) (n - 1))) is
-    ∙ ap (λ (t : Bool). if t then Some b else None)
-    (ap (λ (k : ℕ). are_symbol_bytes b.symbol b.width k (memory_bytes memory (plus a 1) (n - 1))) next ∙ follow_is)
+symbol_some memory a n b follow some is follow_is = search (rules, memory_step, symbol_cons)
 
 module _ (others : ℕ → Option OtherByte) (memory : ℕ → ℕ) where
   abbrev pub over : ℕ → MemoryByte
@@ -157,10 +146,7 @@ pub put_none_next : (others : ℕ → Option OtherByte) (a i n q : ℕ) → i < 
     put others (plus a i) (replicate (n - i) None) q
     ≡ (if q == plus a i then None else put others (plus a (i + 1)) (replicate (n - (i + 1)) None) q)
 unfolding put
-put_none_next others a i n q h =
-    let e : n - i ≡ suc (n - (i + 1)) = omega arith in
-    let next : plus (plus a i) 1 ≡ plus a (i + 1) = omega arith in
-    rw (e, next) refl
+put_none_next others a i n q h = search rules
 
 none_only : (o : Option OtherByte) → is_none o ≡ true → o ≡ None
 none_only None e = refl
@@ -190,11 +176,7 @@ pub put_symbol_next : (others : ℕ → Option OtherByte) (a i n q : ℕ) (y : C
     ≡ (if q == plus a i then Some (other.Symbol y w (first + i))
     else put others (plus a (i + 1)) (other_bytes y w (first + (i + 1)) (n - (i + 1))) q)
 unfolding put other_bytes
-put_symbol_next others a i n q y w first h =
-    let e : n - i ≡ suc (n - (i + 1)) = omega arith in
-    let next : plus (plus a i) 1 ≡ plus a (i + 1) = omega arith in
-    let index : suc (first + i) ≡ first + (i + 1) = omega arith in
-    rw (e, next, index) refl
+put_symbol_next others a i n q y w first h = search rules
 
 -- The break.
 
