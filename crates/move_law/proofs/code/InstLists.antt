@@ -1,5 +1,5 @@
 -- The lists of instructions of accepted code: each instruction is in its function, and each start that something refers to is in a list.
-use Rattle.std.proofs.Common.{◌≡◌, ℕ, zero, ◌+◌, ◌<◌, List, [], ◌∷◌, Option, Some, None, Bool, true, false, refl, sym, ◌∙◌}
+use Rattle.std.proofs.Common.{◌≡◌, ℕ, zero, ◌+◌, ◌<◌, List, [], ◌∷◌, Option, Some, None, Bool, true, false, refl, sym, ◌∙◌, rules}
 use Rattle.std.proofs.Common.{subst, arith, inl, inr, ◌⊎◌}
 use Rattle.std.specs.Prelude.{◌==◌, is_some}
 use Rattle.std.specs.List.{Contains}
@@ -91,9 +91,7 @@ module _ (elf : Elf) (tabled : List (ℕ × ℕ)) (code' : ProgramCode) (is : Is
       func_in = (is.funcs.each start end part).1
 
       insts : AreInsts elf start func.insts.items end
-      insts = let e = (is.funcs.each start end part).2 in let f = (is.funcs.each start end part).3 in
-          subst (λ (n : ℕ). AreInsts elf start func.insts.items n) f
-          (subst (λ (n : ℕ). AreInsts elf n func.insts.items func.end) e (is.funcs.only func func_in).insts)
+      insts = search (rules, func_in)
 
       tail : Tail elf func.insts.items end a
       tail = tail_of elf start end func.insts.items insts starts

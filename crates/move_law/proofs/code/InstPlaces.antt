@@ -1,5 +1,5 @@
 -- The instructions of accepted code are in loaded bytes that may be executed and not written, at even addresses, one after another.
-use Rattle.std.proofs.Common.{◌≡◌, ℕ, ◌+◌, ◌-◌, ◌%◌, ◌<◌, ◌≤◌, List, [], ◌∷◌, length, Option, Some, true, false, refl, sym}
+use Rattle.std.proofs.Common.{◌≡◌, ℕ, ◌+◌, ◌-◌, ◌%◌, ◌<◌, ◌≤◌, List, [], ◌∷◌, length, Option, Some, true, false, refl, sym, rules}
 use Rattle.std.proofs.Common.{ap, ◌∙◌, subst, arith, inl, inr, ◌⊎◌, get_or}
 use Rattle.std.specs.Prelude.{Contains, AllPairs, Any, IsTrue, slice_get}
 use Rattle.std.specs.Option.{option_map_or}
@@ -65,10 +65,7 @@ module _ (elf : Elf) where
 
       by : (q ≡ p) ⊎ Contains ps p → (Contains ps p → IsBetween (a + q.len) end p) → IsBetween a end p
       by (inl same) rest = subst (IsBetween a end) same here
-      by (inr k) rest =
-          let r = rest k in
-          let from = r.from in
-          record { from = omega (arith, from); to = r.to; some = r.some }
+      by (inr k) rest = search rules
 
   insts_ordered : (a end : ℕ) (ps : List Placed) → AreInsts elf a ps end → AllPairs (λ p q. p.addr + p.len ≤ q.addr) ps
   insts_ordered a end [] are = λ i j d less inside. absurd (omega (arith, inside))

@@ -1,5 +1,5 @@
 -- In the identity rewrite each code cell holds its own value.
-use Rattle.std.proofs.Common.{◌≡◌, ℕ, suc, ◌+◌, ◌*◌, ◌/◌, ◌%◌, ◌^◌, ◌<◌, ◌≤◌, List, [], ◌∷◌, length, Option, Some, None}
+use Rattle.std.proofs.Common.{◌≡◌, ℕ, suc, ◌+◌, ◌*◌, ◌/◌, ◌%◌, ◌^◌, ◌<◌, ◌≤◌, List, [], ◌∷◌, length, Option, Some, None, rules}
 use Rattle.std.proofs.Common.{true, refl, sym, ap, ◌∙◌, subst, arith, inl, inr, ◌⊎◌, ℤ, pos, ◌-ℤ◌, get_or, All}
 use Rattle.std.specs.Prelude.{IsSomeAnd, option_map, Contains}
 use Rattle.std.specs.Int.{int_rem_euclid}
@@ -29,14 +29,13 @@ use Rattle.move_law.specs.Rewrite.{Rewrite, out}
 use Rattle.elf_image.specs.memory.Executables.{Executable, executable_read, memory_of}
 use Rattle.move_law.specs.RelocatedValues.{distance, number_of_symbol}
 use Rattle.move_law.specs.Laws.{IsAcceptedCode, IsSoundExecutable}
-use Rattle.move_law.proofs.code.FittingRoles.{fits, bounded_of}
+use Rattle.move_law.proofs.code.FittingRoles.{fits, bounded_of, same_pos}
 use Rattle.move_law.proofs.code.CellWidths.{field_width, same_address}
 use Rattle.elf_code.proofs.Differences.{difference_bits}
 use Rattle.elf_code.proofs.Counts.{can_of}
 use Rattle.move_law.proofs.files.Executables.{byte_small, accepted_executable}
 use Rattle.move_law.proofs.files.Numbers.{bytes_at_is}
 use Rattle.rb_bytes.proofs.Tests.{antisym}
-use Rattle.move_law.proofs.code.FittingRoles.{same_pos}
 use Rattle.rb_bytes.proofs.Stable.{stable_equal}
 
 little_small : (bs : List ℕ) → All (λ b. b < 256) bs → little bs < 256 ^ length bs
@@ -131,9 +130,7 @@ module _ (elf : Elf) (code : ProgramCode) (accepted : IsAcceptedCode elf code) (
       by : (o : Option ℕ) → loaded_number elf cell.addr cell.width ≡ o →
           (x : ℕ) × (loaded_number elf cell.addr cell.width ≡ Some x)
       by (Some x) e = (x, e)
-      by None e = absurd (holds (λ h.
-          let none : loaded_number elf q.place (bytes_of_bits bits) ≡ None = rw (size is, sym at) e in
-          subst (λ (o : Option ℕ). IsSomeAnd o (λ x. int_rem_euclid (z -ℤ w) (pos (2 ^ bits)) ≡ pos (x % 2 ^ bits))) none h))
+      by None e = search rules
 
   pub cell_holds : (cell : CodeCell) → IsCell elf accepted.tabled cell →
       loaded_number elf cell.addr cell.width ≡ Some (number_of_symbol r (symbol_of cell.kind) % 256 ^ cell.width)
@@ -152,9 +149,7 @@ module _ (elf : Elf) (code : ProgramCode) (accepted : IsAcceptedCode elf code) (
       at_kind : (k : CellKind) → cell.kind ≡ k →
           loaded_number elf cell.addr cell.width ≡ Some (number_of_symbol r (symbol_of k) % 256 ^ cell.width) →
           loaded_number elf cell.addr cell.width ≡ Some (number_of_symbol r (symbol_of cell.kind) % 256 ^ cell.width)
-      at_kind k e h =
-          subst (λ (k : CellKind). loaded_number elf cell.addr cell.width
-          ≡ Some (number_of_symbol r (symbol_of k) % 256 ^ cell.width)) (sym e) h
+      at_kind k e h = search rules
 
       by : (k : CellKind) → cell.kind ≡ k → (content : Content) → c.content ≡ content →
           IsField elf accepted.tabled (record { place = cell.addr; width = cell.width; content = c.content }) →

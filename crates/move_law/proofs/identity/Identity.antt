@@ -28,14 +28,13 @@ use Rattle.sym_machine.specs.declared.value.Pointer.TheVariants as pointer
 use Rattle.move_law.specs.FaithfulRewrite.{GetsToNext, GoesOn, HasInSpan, IsFaithful, IsMapOf, KeepsAction, KeepsCell, KeepsInst}
 use Rattle.move_law.specs.FaithfulRewrite.{made_anew, same}
 use Rattle.move_law.specs.Laws.{IdentityIsFaithful, IdentityLaw, IsAcceptedCode, KeepsCode, RunsAreReal, identity, own_spans}
-use Rattle.move_law.specs.Rewrite.{Goes, HasAt, Rewrite, inst_end, jumps, out, program, stays}
+use Rattle.move_law.specs.Rewrite.{Goes, HasAt, Rewrite, inst_end, jumps, out, program, stays, width_at}
 use Rattle.elf_image.specs.memory.Executables.{AreCodeBytes, executable_read}
-use Rattle.move_law.specs.Rewrite.{width_at}
 use Rattle.move_law.specs.SimulationRelation.{SimulationRelation}
 use Rattle.move_law.proofs.code.NextInst.{next_of_is}
 use Rattle.move_law.proofs.identity.MadeAnew.{anew}
 use Rattle.move_law.proofs.identity.CellContents.{cell_holds}
-use Rattle.move_law.proofs.code.InstLists.{code_at, inst_at, length_of}
+use Rattle.move_law.proofs.code.InstLists.{code_at, inst_at, length_of, found_at}
 use Rattle.move_law.proofs.code.InstPlaces.{inst_code, inst_even, ordered, some_length}
 use Rattle.move_law.proofs.files.EntryField.{entry_field}
 use Rattle.move_law.proofs.files.Executables.{accepted_executable}
@@ -46,7 +45,6 @@ use Rattle.move_law.proofs.steps.Matching.{code_is_low}
 use Rattle.move_law.proofs.code.FittingRoles.{has_code_facts}
 use Rattle.move_law.proofs.steps.Start.{entry_is, entry_named, starts_related}
 use Rattle.move_law.proofs.map.SymbolNumbers.{facts_of}
-use Rattle.move_law.proofs.code.InstLists.{found_at}
 use Rattle.rb_bytes.proofs.ListLemmas.{all_of, from_map, in_map, pairs_in, pairs_map}
 
 abbrev own : Placed → Span

@@ -1,6 +1,6 @@
 -- If nothing moved, the machines run in lock-step: each step of the symbol machine that isn't stuck is one step of the byte machine.
 use Rattle.std.proofs.Common.{◌≡◌, ℕ, ◌%◌, ◌<◌, List, Option, Some, None, Bool, true, false, refl, sym, subst, ℤ}
-use Rattle.std.specs.Prelude.{if◌then◌else◌, ◌==◌}
+use Rattle.std.specs.Prelude.{if◌then◌else◌, ◌==◌, Contains}
 use Rattle.rv_code.specs.declared.inst.Inst.TheVariants.{Jal}
 use Rattle.rv_code.specs.declared.action.Action.TheVariants.{Jump}
 use Rattle.rv_code.specs.declared.placed.Placed.{Placed}
@@ -13,7 +13,6 @@ use Rattle.rv_code.specs.machine.Step as byte
 use Rattle.rv_code.specs.layout.FunctionLists.{address_end}
 use Rattle.sym_machine.specs.declared.outcome.Reason.TheVariants as reason
 use Rattle.sym_machine.specs.SymStep.{SymState, SymOutcome, SymSteps, sym_step, needs}
-use Rattle.std.specs.Prelude.{Contains}
 use Rattle.move_law.specs.Rewrite.{Rewrite, width_at, out, HasAt}
 use Rattle.elf_image.specs.memory.Executables.{IsCodeByte}
 use Rattle.move_law.specs.SimulationRelation.{SimulationRelation, RelatedData}

@@ -16,7 +16,7 @@ use Rattle.elf_code.specs.Roles.{IsAbsoluteLow, Claims, HasRole, RoleIs, CallPai
 use Rattle.elf_code.specs.Roles as claims
 use Rattle.elf_code.specs.CodeFaults.{HasCodeFault}
 use Rattle.rb_bytes.specs.FirstFault.{IsFree}
-use Rattle.elf_code.specs.ReferenceFaults.{IsCall, IsMisfit, HasAbsolute}
+use Rattle.elf_code.specs.ReferenceFaults.{IsMisfit, HasAbsolute}
 use Rattle.elf_code.specs.ReferenceFaults as faults
 use Rattle.rv_code.specs.isa.HiLo.{hi20, lo12}
 use Rattle.rv_code.specs.layout.Flow.{insts_of}

@@ -1,5 +1,5 @@
 -- The new addresses of named instructions and of the ends of calls.
-use Rattle.std.proofs.Common.{◌≡◌, ◌≢◌, ℕ, zero, suc, ◌+◌, ◌-◌, ◌%◌, ◌<◌, ◌≤◌, Option, Some, None, true, false, refl, sym, ap}
+use Rattle.std.proofs.Common.{◌≡◌, ◌≢◌, ℕ, zero, suc, ◌+◌, ◌-◌, ◌%◌, ◌<◌, ◌≤◌, Option, Some, None, true, false, refl, sym, ap, rules}
 use Rattle.std.proofs.Common.{◌∙◌, subst, arith, inl, inr}
 use Rattle.std.specs.Prelude.{nat_le, nat_lt, IsTrue, IsSomeAnd, option_map, unwrap_or}
 use Rattle.std.specs.List.{Contains, find}
@@ -191,15 +191,7 @@ module _ (r : Rewrite) (keeps : KeepsCode r) where
       both_even x y h k = omega (arith, h, k)
 
       of : EndIs a → IsPlace (inst_end r a)
-      of t =
-          let end = t.end in
-          let some = t.some in
-          let low = t.low in
-          record {
-            above = omega (arith, end, some);
-            even = rw end (both_even (out r a) t.width t.place.even t.even);
-            low = omega (arith, end, low);
-          }
+      of t = search rules
 
   pub ret_once : (a b : ℕ) → IsGivenPointer r (Ret a) → IsGivenPointer r (Ret b) → inst_end r a ≡ inst_end r b → a ≡ b
   ret_once a b ha hb e = of (end_is a (ret_there a ha)) (end_is b (ret_there b hb))

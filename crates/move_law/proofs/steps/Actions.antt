@@ -1,5 +1,5 @@
 -- The action of an instruction of the input, and of the output's instruction for it.
-use Rattle.std.proofs.Common.{◌≡◌, ℕ, zero, suc, ◌*◌, ◌/◌, ◌%◌, ◌^◌, ◌<◌, Option, Some, None, true, false, refl, sym, ap, ◌∙◌}
+use Rattle.std.proofs.Common.{◌≡◌, ℕ, zero, suc, ◌*◌, ◌/◌, ◌%◌, ◌^◌, ◌<◌, Option, Some, None, true, false, refl, sym, ap, ◌∙◌, rules}
 use Rattle.std.proofs.Common.{subst, arith, inl, inr, ℤ, pos}
 use Rattle.std.specs.Prelude.{◌==◌, ◌||◌, not, IfSome}
 use Rattle.std.proofs.lemmas.Bool.{eqb-true, ne_eqb}
@@ -18,7 +18,7 @@ use Rattle.rv_code.specs.layout.Flow.{is_call}
 use Rattle.rv_code.specs.isa.HiLo.{hi20, lo12}
 use Rattle.rv_code.specs.machine.Machine.{plus}
 use Rattle.rv_code.specs.isa.Op.{apply}
-use Rattle.rv_code.specs.machine.Step.{ByteState, ByteOutcome, operand, address}
+use Rattle.rv_code.specs.machine.Step.{ByteState, operand, address}
 use Rattle.rv_code.specs.machine.Step as byte
 use Rattle.rv_code.specs.isa.TwosComplement.{unsigned64}
 use Rattle.sym_machine.specs.declared.value.Pointer.{Pointer}
@@ -28,7 +28,7 @@ use Rattle.sym_machine.specs.declared.value.Value.{Value}
 use Rattle.sym_machine.specs.declared.value.Value.TheVariants.{Num, Sym, Piece}
 use Rattle.sym_machine.specs.Values.{value_of, number}
 use Rattle.sym_machine.specs.Rules.{is_lower, is_hi, is_abs, joined, goal, place, destination, combined}
-use Rattle.sym_machine.specs.SymStep.{SymState, SymOutcome, needs}
+use Rattle.sym_machine.specs.SymStep.{SymState}
 use Rattle.sym_machine.specs.SymStep as symbol
 use Rattle.move_law.specs.Rewrite.{Rewrite, out}
 use Rattle.move_law.specs.RelocatedValues.{distance, target_at, upper_target, number_of_pointer}
@@ -264,10 +264,7 @@ module _ (r : Rewrite) (L : ℕ → ℕ → Type 0) (symbols : Symbols r) (space
       upper_arm (role.Hi target) target rd imm here fits.1 target_is (given tt) (leads tt)
   arm (role.CallHi target) (Auipc rd imm) plain fits here target_is given leads saves =
       upper_arm (role.CallHi target) target rd imm here fits.1 target_is (given tt) (leads tt)
-  arm (role.AbsHi target) (Lui rd imm) plain fits here target_is given leads saves =
-      gives_follows r L s u next from rd (unsigned64 (hi20 (pos (out r target))) * 4096 % 2 ^ 64) (Sym (Abs target)) None
-      rel (leads tt)
-      (λ k e. record { value = tt; given = fits.1; number = upper_of_number_is (out r target) fits.2.fits })
+  arm (role.AbsHi target) (Lui rd imm) plain fits here target_is given leads saves = search (rules, gives_follows, upper_of_number_is)
   arm (role.Lo hi target) inst plain fits here target_is given leads saves =
       low_arm (role.Lo hi target) inst fits.0 fits.1 leads saves
   arm (role.CallLo hi target) inst plain fits here target_is given leads saves =

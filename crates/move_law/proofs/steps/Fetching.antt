@@ -1,5 +1,5 @@
 -- A state at an instruction of a file does this instruction; a state at a jump that saves nothing gets to its target.
-use Rattle.std.proofs.Common.{◌≡◌, ℕ, ◌+◌, ◌*◌, ◌%◌, ◌^◌, ◌<◌, ◌≤◌, [], Option, Some, None, Bool, true, false, refl, sym, ap, ◌∙◌}
+use Rattle.std.proofs.Common.{◌≡◌, ℕ, ◌+◌, ◌*◌, ◌%◌, ◌^◌, ◌<◌, ◌≤◌, [], Option, Some, None, Bool, true, false, refl, sym, ap, ◌∙◌, rules}
 use Rattle.std.proofs.Common.{subst, arith, add-zero, inl, inr}
 use Rattle.std.specs.Prelude.{◌==◌, unwrap_or}
 use Rattle.std.proofs.lemmas.Bool.{eqb-true, eq-eqb}
@@ -48,19 +48,10 @@ fetched_long b h g t m e k f n = rw (t, m, f, n, e, k) refl
 
 module _ (x : Executable) (b : ByteState) (has : HasCode x b) where
   half_is : (a : ℕ) → AreCodeBytes x a 2 → halfword b a ≡ halfword_in (memory_of x) a
-  half_is a code =
-      let first : IsCodeByte x a = rw add-zero at (code 0 (omega arith)) in
-      let second = code 1 (omega arith) in
-      let low = has.low (a + 1) second in
-      two_bytes b.memory a (unwrap_or (memory_of x a) 0) (unwrap_or (memory_of x (a + 1)) 0) (omega arith)
-      (has.byte a first) (has.byte (a + 1) second)
+  half_is a code = search (rules, add-zero, two_bytes)
 
   may_two : (a : ℕ) → AreCodeBytes x a 2 → all_may (may_execute b) a 2 ≡ true
-  may_two a code =
-      let first : IsCodeByte x a = rw add-zero at (code 0 (omega arith)) in
-      let second = code 1 (omega arith) in
-      let low = has.low (a + 1) second in
-      two_may (may_execute b) a (omega arith) (has.may a first) (has.may (a + 1) second)
+  may_two a code = search (rules, add-zero, two_may)
 
   step_two : (inst : Inst) (bytes : ℕ) → b.pc % 2 ≡ 0 → bytes ≡ 2 → AreCodeBytes x b.pc bytes →
       (halfword_in (memory_of x) b.pc % 4 ≡ 3 → ⊥) →

@@ -1,6 +1,5 @@
 -- The output's instruction for an instruction of the input has an outcome that follows the symbol machine's.
-use Rattle.std.proofs.Common.{◌≡◌, ℕ, zero, suc, ◌%◌, ◌<◌, Option, Some, None, Bool, true, false, refl, ap, ◌∙◌, subst}
-use Rattle.std.proofs.Common.{arith, inl, inr, ℤ}
+use Rattle.std.proofs.Common.{◌≡◌, ℕ, zero, suc, ◌%◌, ◌<◌, Option, Some, None, Bool, true, false, refl, ap, ◌∙◌, subst, arith, inl, inr, ℤ}
 use Rattle.std.specs.Prelude.{if◌then◌else◌, not, IsTrue, IsSomeAnd, IfSome, Contains, is_some, option_map}
 use Rattle.rv_code.specs.declared.inst.Inst.{Inst}
 use Rattle.rv_code.specs.declared.inst.Inst.TheVariants.{Jal, Sb, Sh, Sw, Sd, Beq, Bne, Blt, Bge, Bltu, Bgeu}

@@ -1,8 +1,8 @@
 -- Branches and jumps, from related states.
-use Rattle.std.proofs.Common.{◌≡◌, ℕ, suc, ◌*◌, ◌/◌, ◌%◌, Option, Some, None, Bool, true, false, refl, ◌∙◌, subst, arith}
+use Rattle.std.proofs.Common.{◌≡◌, ℕ, suc, ◌*◌, ◌/◌, ◌%◌, Option, Some, None, Bool, true, false, refl, ◌∙◌, subst, arith, rules}
 use Rattle.std.specs.Prelude.{if◌then◌else◌, ◌==◌, ◌||◌, not, IfSome}
 use Rattle.rv_code.specs.declared.placed.Role.{Role}
-use Rattle.rv_code.specs.machine.Step.{ByteState, ByteOutcome}
+use Rattle.rv_code.specs.machine.Step.{ByteState}
 use Rattle.rv_code.specs.machine.Step as byte
 use Rattle.sym_machine.specs.declared.outcome.Reason.TheVariants as reason
 use Rattle.sym_machine.specs.declared.value.Pointer.{Pointer}
@@ -12,7 +12,7 @@ use Rattle.sym_machine.specs.declared.value.Value.{Value}
 use Rattle.sym_machine.specs.declared.value.Value.TheVariants.{Num, Sym, Piece}
 use Rattle.rb_bytes.specs.Options.{only_if}
 use Rattle.sym_machine.specs.Rules.{is_lower, pointer, destination}
-use Rattle.sym_machine.specs.SymStep.{SymState, SymOutcome, needs}
+use Rattle.sym_machine.specs.SymStep.{SymState, needs}
 use Rattle.sym_machine.specs.SymStep as symbol
 use Rattle.move_law.specs.Rewrite.{Rewrite}
 use Rattle.move_law.specs.RelocatedValues.{number_of_pointer}
@@ -47,9 +47,7 @@ module _ (r : Rewrite) (L : ℕ → ℕ → Type 0) (s : SymState) (u : ByteStat
   pub jumps : (to goes rd end : ℕ) → end ≡ number_of_pointer r (Ret s.pc) →
       ((k : ℕ) → rd ≡ suc k → IsGivenPointer r (Ret s.pc)) → RelatedPc r L to goes →
       Follows r L (symbol.jumps s rd to) (byte.writes_register u goes rd end)
-  jumps to goes rd end is saves leads =
-      gives_follows r L s u to goes rd end (Sym (Points (Ret s.pc))) None rel leads
-      (λ k e. record { value = tt; given = saves k e; number = is })
+  jumps to goes rd end is saves leads = search (rules, gives_follows)
 
   even_half : (n : ℕ) → n % 2 ≡ 0 → n / 2 * 2 ≡ n
   even_half n e = omega (arith, e)

@@ -1,7 +1,6 @@
 -- A step of the symbol machine that isn't stuck is matched by at most three steps of the byte machine: one jump may come before and one
 -- after the output's instruction for it.
-use Rattle.std.proofs.Common.{◌≡◌, ℕ, zero, suc, ◌%◌, ◌<◌, ◌≤◌, [], Option, Some, None, Bool, true, false, refl}
-use Rattle.std.proofs.Common.{subst, arith, ℤ}
+use Rattle.std.proofs.Common.{◌≡◌, ℕ, zero, suc, ◌%◌, ◌<◌, ◌≤◌, [], Option, Some, None, Bool, true, false, refl, subst, arith, ℤ}
 use Rattle.std.specs.Prelude.{if◌then◌else◌, ◌==◌, Contains}
 use Rattle.std.proofs.lemmas.Grind.{common_steps}
 use Rattle.rv_code.specs.declared.action.Action.{Action}

@@ -5,7 +5,7 @@ use Rattle.std.specs.Prelude.{if◌then◌else◌, ◌&&◌, ◌||◌, nat_le, n
 use Rattle.std.specs.List.{Contains, list_any}
 use Rattle.std.specs.Option.{option_map_or, option_or}
 use Rattle.std.proofs.lemmas.Bool.{and_parts, and_from, leb-true, ltb-true, le-leb, lt-ltb, false_from_ne_true}
-use Rattle.std.proofs.lemmas.List.Elements.{Contains-append_right, Contains-append_cases}
+use Rattle.std.proofs.lemmas.List.Elements.{Contains-append_right, Contains-append_cases, All-contains}
 use Rattle.rv_code.specs.declared.cell.CodeCell.{CodeCell}
 use Rattle.rv_code.specs.declared.cell.CellKind.{CellKind}
 use Rattle.rv_code.specs.declared.cell.CellKind.TheVariants as kind
@@ -19,9 +19,8 @@ use Rattle.elf_code.specs.Cells.{IsField, pointer, slot, difference, IsCell, Con
 use Rattle.elf_code.specs.Functions as functions
 use Rattle.elf_code.specs.Parts.{IsStart}
 use Rattle.rb_bytes.specs.declared.fault.FaultKind.TheVariants.{BadEntry}
-use Rattle.rv_memory.specs.Start.{start, start_memory, start_registers, stack_bytes, stack_pointer}
+use Rattle.rv_memory.specs.Start.{start, start_memory, start_registers, stack_bytes, stack_pointer, in_stack, space_of}
 use Rattle.elf_image.specs.memory.Break.{table_address, break_start}
-use Rattle.rv_memory.specs.Start.{in_stack, space_of}
 use Rattle.rb_bytes.proofs.Searches.{find-found}
 use Rattle.sym_machine.specs.declared.value.Pointer.TheVariants.{Code}
 use Rattle.sym_machine.specs.declared.value.CodeSymbol.TheVariants.{Points}
@@ -43,7 +42,6 @@ use Rattle.move_law.proofs.values.Arithmetic.{number_stands}
 use Rattle.move_law.proofs.map.MappedPlaces.{place}
 use Rattle.move_law.proofs.code.InstLists.{function_code, start_code}
 use Rattle.sym_machine.specs.Values.{IsSymbol}
-use Rattle.std.proofs.lemmas.List.Elements.{All-contains}
 use Rattle.std.proofs.lemmas.Grind.{common_steps}
 use Rattle.elf_code.proofs.Counts.{can_of}
 use Rattle.sym_machine.proofs.StartFields.{in_range}
