@@ -1,5 +1,5 @@
 // The unit of an address, by an index.
-ghost use Rattle.std.specs.Prelude.{◌≡◌, ℕ, IfOk, map, option_map};
+ghost use Rattle.std.specs.Prelude.{◌≡◌, ◌≤◌, ℕ, IfOk, map, option_map, option_and_then, slice_get};
 ghost use Rattle.std.specs.List.{find};
 ghost use Rattle.answer_runs.specs.AddressRanges.{holds_address};
 
@@ -42,11 +42,20 @@ impl UnitIndex {
         Ok(UnitIndex { units, first })
     }
 
-    /// The offset in `.debug_info` of the unit of an address, if it has one.
-    pub fn find(&self, a: u64) -> Option<u64>
-        ensures { result ≡ unit_found self.now a }
+    // The unit of a range, if there is one.
+    fn unit(&self, number: Option<usize>) -> Option<u64>
+        ensures { result ≡ option_and_then (slice_get self.now.units.items) number }
     {
-        let number = self.first.find(a)?;
-        self.units.get(number).copied()
+        self.units.get(number?).copied()
+    }
+
+    /// The offset in `.debug_info` of the unit of an address, if it has one, and the last address up to which that
+    /// stays so.
+    pub fn piece(&self, a: u64) -> (Option<u64>, u64)
+        ensures unit { (x : ℕ) → a ≤ x → x ≤ result.1 → result.0 ≡ unit_found self.now x }
+        ensures last { a ≤ result.1 }
+    {
+        let (number, last) = self.first.piece(a);
+        (self.unit(number), last)
     }
 }
