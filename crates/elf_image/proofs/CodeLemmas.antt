@@ -1,8 +1,7 @@
 -- The executable segments, in the order of their table.
-use Rattle.std.proofs.Common.{◌≡◌, ◌∙◌, sym, ap, subst, refl, ℕ, ◌+◌, ◌≤◌, ◌<◌, inl, inr, ⊎_elim, ◌↔◌, IsTrue, List, Option, Some}
+use Rattle.std.proofs.Common.{◌≡◌, ◌∙◌, sym, ap, subst, refl, ℕ, ◌+◌, ◌≤◌, ◌<◌, inl, inr, ◌↔◌, IsTrue, List, Option, Some, rules}
 use Rattle.std.proofs.Common.{None, IfSome, IfNone, Any, nat_eq, codes, is_some, Bool, true, false, not, arith}
 use Rattle.std.specs.List.{starts_with}
-use Rattle.std.proofs.lemmas.Bool.{cases_lt, cases_order}
 use Rattle.std.proofs.lemmas.Option.{slice_get_cases}
 use Rattle.elf_image.specs.declared.section.Section.{Section}
 use Rattle.elf_image.specs.declared.segment.Segment.{Segment}
@@ -18,36 +17,14 @@ use Rattle.elf_image.proofs.SectionLemmas.{section-at}
 -- The second executable segment is the next one after the first.
 pub IsSecondCode-next : (file : List ℕ) (first i : ℕ) → IsCode file first → ((k : ℕ) → IsCode file k → 0 ≤ k → first ≤ k) →
     IsCode file i → first + 1 ≤ i → ((k : ℕ) → IsCode file k → first + 1 ≤ k → i ≤ k) → IsSecondCode file i
-IsSecondCode-next file first i code lowest code_i past next = (
-  code_i,
-  (
-    first,
-    code,
-    omega arith,
-    λ k code_k below.
-        let from = lowest k code_k (omega arith) in
-        elim (cases_lt first k)
-        [ inl after ↦ absurd (let far = next k code_k (omega arith) in omega arith) | inr by ↦ omega arith ],
-  ),
-)
+IsSecondCode-next file first i code lowest code_i past next = search rules
 
 -- There is at most one second executable segment.
 earlier_second : (file : List ℕ) (i k : ℕ) → IsSecondCode file i → IsSecondCode file k → i < k → ⊥
-earlier_second file i k (code, (j, code_j, before, only)) (code_k, (m, code_m, before_m, only_m)) less =
-    let one = only_m i code less in
-    let other = only_m j code_j (omega arith) in
-    omega arith
+earlier_second file i k (code, (j, code_j, before, only)) (code_k, (m, code_m, before_m, only_m)) less = search rules
 
 second_only : (file : List ℕ) (i k : ℕ) → IsSecondCode file i → IsSecondCode file k → i ≡ k
-second_only file i k one other =
-    elim (cases_order i k) [
-      | inl same ↦ same
-      | inr apart ↦ elim apart [
-        | inl less ↦ absurd (earlier_second file i k one other less)
-        | inr more ↦ absurd
-            (earlier_second file k i other one more)
-      ]
-    ]
+second_only file i k one other = search (rules, earlier_second)
 
 pub IsLowest-second : (file : List ℕ) (second : ℕ) (o : Option ℕ) → IsSecondCode file second →
     IsLowest (λ p. IsTooMany file second × (p ≡ segment_place file second)) o →
@@ -101,10 +78,7 @@ has_code-same file from (Some i) code past none = ((λ _. (i, code, past)), (λ 
 -- One segment too many, by two tests.
 pub IsTooMany-old : (file : List ℕ) (second : ℕ) (old : Bool) → (((k : ℕ) × IsCode file k × (second + 1 ≤ k)) → ⊥) →
     IsTrue old ↔ HasOldSection file → IsTrue (not old) ↔ IsTooMany file second
-IsTooMany-old file second true none test = (
-  (λ is. absurd (let never : false ≡ true = is in cc)),
-  ⊎_elim (λ (k, code, above). absurd (none (k, code, omega arith))) (λ not_old. absurd (not_old (test.0 refl))),
-)
+IsTooMany-old file second true none test = search rules
 IsTooMany-old file second false none test = ((λ _. inr (λ is. let never : false ≡ true = test.1 is in cc)), (λ _. refl))
 
 pub IsTooMany-more : (file : List ℕ) (second : ℕ) (more : Bool) → IsTrue more → ((k : ℕ) × IsCode file k × (second + 1 ≤ k)) →
@@ -119,64 +93,26 @@ IsLowestCodeBelow-begin file first code lowest = (code, λ j code_j below. absur
 
 pub IsLowestCodeBelow-lower : (file : List ℕ) (k i : ℕ) → IsCode file k → (segment file k).vaddr < (segment file i).vaddr →
     IsLowestCodeBelow file k i → IsLowestCodeBelow file (k + 1) k
-IsLowestCodeBelow-lower file k i code lower is = (
-  code,
-  λ j code_j below. elim (cases_lt j k) [
-    | inl earlier ↦ ⊎_elim (λ less. inl (omega arith)) (λ (same, _). inl (omega arith)) (is.1 j code_j earlier)
-    | inr last ↦ let same : k ≡ j = omega arith in inr (ap (λ (n : ℕ). (segment file n).vaddr) same, omega arith)
-  ],
-)
+IsLowestCodeBelow-lower file k i code lower is = search (rules, segment)
 
 pub IsLowestCodeBelow-same : (file : List ℕ) (k i : ℕ) → (IsCode file k × ((segment file k).vaddr < (segment file i).vaddr) → ⊥) →
     i ≤ k → IsLowestCodeBelow file k i → IsLowestCodeBelow file (k + 1) i
-IsLowestCodeBelow-same file k i higher order is = (
-  is.0,
-  λ j code_j below. elim (cases_lt j k) [
-    | inl earlier ↦ is.1 j code_j earlier
-    | inr last ↦ let same : j ≡ k = omega arith in
-        let vaddr : (segment file j).vaddr ≡ (segment file k).vaddr = ap (λ (n : ℕ). (segment file n).vaddr) same in
-        elim (cases_order (segment file i).vaddr (segment file k).vaddr) [
-          | inl equal ↦ inr (equal ∙ sym vaddr, omega arith)
-          | inr apart ↦ elim apart [
-            | inl less ↦ inl (omega arith)
-            | inr more ↦ absurd (higher (subst (IsCode file) same code_j, more))
-          ]
-        ]
-  ],
-)
+IsLowestCodeBelow-same file k i higher order is = search (rules, segment)
 
 pub IsLowestCodeBelow-all : (file : List ℕ) (n i : ℕ) → e_phnum file ≤ n → IsLowestCodeBelow file n i → IsLowestCode file i
 IsLowestCodeBelow-all file n i all is = (is.0, λ j code_j below. is.1 j code_j (omega arith))
 
 -- If no segment is executable, nothing crosses the end of one.
 pub crosses_nothing : (file : List ℕ) → ((i : ℕ) → IsCode file i → ⊥) → IsLowest (IsCrossed file) None
-crosses_nothing file none =
-    IsLowest-none
-    (λ p. ⊎_elim
-    (λ (i, below, ((code, lowest, before, after), at)). none code lowest.0)
-    (λ ((code, lowest, before, after), at). none code lowest.0))
+crosses_nothing file none = search (rules, IsLowest-none)
 
 -- There is only one lowest executable segment.
 lowest_code_same : (file : List ℕ) (c d : ℕ) → IsLowestCode file c → IsLowestCode file d → c ≡ d
-lowest_code_same file c d (code_c, least_c) (code_d, least_d) =
-    let to_d = least_c d code_d code_d.0 in
-    let to_c = least_d c code_c code_c.0 in
-    ⊎_elim
-    (λ less. ⊎_elim (λ more. absurd (omega arith)) (λ (same, at). absurd (omega arith)) to_c)
-    (λ (same, at). ⊎_elim (λ more. absurd (omega arith)) (λ (same', at'). omega arith) to_c)
-    to_d
+lowest_code_same file c d (code_c, least_c) (code_d, least_d) = search rules
 
 -- Whether a range crosses the end of the lowest executable segment.
 pub CrossesEnd-of : (file : List ℕ) (code offset size : ℕ) (p : Segment) (crosses : Bool) → IsLowestCode file code →
     p ≡ segment file code →
     IsTrue crosses ↔ ((offset < p.offset + p.filesz) × (p.offset + p.filesz < offset + size)) →
     IsTrue crosses ↔ CrossesEnd file offset size
-CrossesEnd-of file code offset size p crosses lowest same test =
-    let Starts : Segment → Type 0 = λ q. offset < q.offset + q.filesz in
-    let Ends : Segment → Type 0 = λ q. q.offset + q.filesz < offset + size in (
-      λ is. let both = test.0 is in (code, lowest, subst Starts same both.0, subst Ends same both.1),
-      λ (c, lowest_c, starts, ends).
-          let one : segment file c ≡ p =
-          ap (λ (i : ℕ). segment file i) (lowest_code_same file c code lowest_c lowest) ∙ sym same in
-          test.1 (subst Starts one starts, subst Ends one ends),
-    )
+CrossesEnd-of file code offset size p crosses lowest same test = search (rules, segment, lowest_code_same)

@@ -1,5 +1,5 @@
 -- The cuts of a file as a list, symbol by symbol and section by section.
-use Rattle.std.proofs.Common.{◌≡◌, sym, subst, refl, ℕ, suc, zero, ◌+◌, ◌^◌, Bool, true, false, if◌then◌else◌, nat_lt, IsTrue}
+use Rattle.std.proofs.Common.{◌≡◌, sym, subst, refl, ℕ, suc, zero, ◌+◌, Bool, true, false, if◌then◌else◌, IsTrue, rules}
 use Rattle.std.proofs.Common.{List, [], ◌∷◌, ◌++◌, arith, ◌⊎◌, inl, inr, ⊎_elim}
 use Rattle.std.specs.List.{Contains, Any, flat_map}
 use Rattle.std.proofs.lemmas.Bool.{ltb-true, ltb-false}
@@ -39,32 +39,10 @@ Contains-flat_map_from f P says (x ∷ xs) a is_in =
 
 -- The bounds of a range.
 IsBound-from_bounds : (start size a : ℕ) → Contains (bounds start size) a → IsBound start size a
-IsBound-from_bounds start size a =
-    elim (nat_lt (start + size) (2 ^ 64)) as
-    (λ b. nat_lt (start + size) (2 ^ 64) ≡ b → Contains (if b then start ∷ (start + size) ∷ [] else start ∷ []) a →
-    IsBound start size a) [
-      | true ↦ λ below is_in. ⊎_elim (λ same. inl (sym same))
-          (λ later. ⊎_elim
-          (λ same. inr (sym same, let fits = ltb-true (start + size) (2 ^ 64) below in omega arith))
-          (λ none. absurd (let within = none.1 in omega arith))
-          (Contains-cons_cases (start + size) [] a later))
-          (Contains-cons_cases start ((start + size) ∷ []) a is_in)
-      | false ↦ λ above is_in. ⊎_elim (λ same. inl (sym same)) (λ none. absurd (let within = none.1 in omega arith))
-          (Contains-cons_cases start [] a is_in)
-    ]
-    refl
+IsBound-from_bounds start size a = search (rules, ltb-true, Contains-cons_cases)
 
 bounds-from_IsBound : (start size a : ℕ) → IsBound start size a → Contains (bounds start size) a
-bounds-from_IsBound start size a =
-    elim (nat_lt (start + size) (2 ^ 64)) as
-    (λ b. nat_lt (start + size) (2 ^ 64) ≡ b → IsBound start size a →
-    Contains (if b then start ∷ (start + size) ∷ [] else start ∷ []) a) [
-      | true ↦ λ below. ⊎_elim (λ same. (0, omega arith, sym same)) (λ end. (1, omega arith, sym end.0))
-      | false ↦ λ above. ⊎_elim (λ same. (0, omega arith, sym same))
-          (λ end. absurd
-          (let far = ltb-false (start + size) (2 ^ 64) above in let same = end.0 in let fits = end.1 in omega arith))
-    ]
-    refl
+bounds-from_IsBound start size a = search (rules, ltb-false)
 
 -- The bounds of chosen items.
 chosen-bounds : (chosen : Bool) (start size a : ℕ) → Contains (if chosen then bounds start size else []) a → IsTrue chosen

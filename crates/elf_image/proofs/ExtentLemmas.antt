@@ -1,5 +1,5 @@
 -- Ranges in the order of their starts.
-use Rattle.std.proofs.Common.{◌≡◌, ◌≢◌, ◌∙◌, sym, ap, subst, ℕ, ◌+◌, ◌≤◌, ◌<◌, inl, inr, ⊎_elim, Bool, List, length, get_or}
+use Rattle.std.proofs.Common.{◌≡◌, ◌≢◌, ◌∙◌, sym, ap, subst, ℕ, ◌+◌, ◌≤◌, ◌<◌, inl, inr, ⊎_elim, Bool, List, length, get_or, rules}
 use Rattle.std.proofs.Common.{max, nat_eq, Option, All, arith}
 use Rattle.std.specs.List.{IsDistinct}
 use Rattle.std.specs.List.Sorted.{IsNonDecreasingBy, IsPermutation}
@@ -37,15 +37,7 @@ MeetsAnother-from_next extents k rising not_empty next = (
 
 pub MeetsNext-from_another : (extents : List Extent) (k reach : ℕ) (e : Extent) → IsNonDecreasingBy (λ s. s.start) extents →
     IsReach extents k reach → reach ≤ (get_or extents k e).start → MeetsAnother extents k → MeetsNext extents k
-MeetsNext-from_another extents k reach e rising reached past (m, within, differ, meet) =
-    elim (cases_order m k) [
-      | inl same ↦ absurd (differ same)
-      | inr apart ↦ elim apart [
-        | inl earlier ↦ absurd (let here = (meet e).0 in let end = reached.above m e earlier in omega arith)
-        | inr later ↦
-            (omega arith, λ d. let here = (meet d).1 in let before = rising (k + 1) m d (omega arith) within in omega arith)
-      ]
-    ]
+MeetsNext-from_another extents k reach e rising reached past (m, within, differ, meet) = search rules
 
 pub IsReach-more : (extents : List Extent) (k reach new : ℕ) (e : Extent) → k < length extents →
     new ≡ max reach (get_or extents k e).end → IsReach extents k reach → IsReach extents (k + 1) new
@@ -133,12 +125,7 @@ IsLowest-shared extents o n places not_empty all is =
 -- The order of ranges doesn't matter.
 
 eqb_comm : (a b : ℕ) → nat_eq a b ≡ nat_eq b a
-eqb_comm a b =
-    elim (cases_eq a b) [
-      | inl same ↦ eq-eqb a b same ∙ sym (eq-eqb b a (sym same))
-      | inr differ ↦ ne_eqb a b differ
-          ∙ sym (ne_eqb b a (λ same. differ (sym same)))
-    ]
+eqb_comm a b = search (rules, cases_eq, eq-eqb, ne_eqb)
 
 pub HavePlaces-permutation : (xs ys : List Extent) → IsPermutation xs ys → HavePlaces xs → HavePlaces ys
 HavePlaces-permutation xs ys order places =

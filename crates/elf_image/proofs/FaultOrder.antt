@@ -1,8 +1,6 @@
 -- The order of faults: each kind is searched for only if the kinds with lower numbers are absent.
-use Rattle.std.proofs.Common.{◌≡◌, ◌∙◌, sym, ap, subst, refl, ℕ, if◌then◌else◌, ◌+◌, ◌≤◌, ◌<◌, ⊎_elim, Option, Some, None}
+use Rattle.std.proofs.Common.{◌≡◌, ◌∙◌, sym, ap, refl, ℕ, if◌then◌else◌, ◌+◌, ◌<◌, Option, Some, None}
 use Rattle.std.proofs.Common.{Result, Ok, Err, MatchOption, MatchResult, OnOk, IfErr, arith, rules}
-use Rattle.std.proofs.lemmas.Bool.{cases_lt}
-use Rattle.std.proofs.lemmas.Result.{MatchResult-at_ok, MatchResult-at_err}
 use Rattle.std.specs.Prelude.{◌==◌}
 use Rattle.rb_bytes.specs.Fault.{number_of, fault_at}
 use Rattle.rb_bytes.specs.declared.fault.Fault.{Fault}
@@ -65,34 +63,19 @@ LacksBelow-none Has kind low = absurd (none kind low)
 -- One more kind is absent.
 pub LacksBelow-more : (Has : FaultKind → ℕ → Type 0) (kind : FaultKind) → number_of kind < 16 → LacksBelow Has (number_of kind) →
     IsLowest (Has kind) None → LacksBelow Has (number_of kind + 1)
-LacksBelow-more Has kind low before absent = λ k below place has.
-    ⊎_elim
-    (λ (less : number_of k < number_of kind). before k less place has)
-    (λ (more : number_of kind ≤ number_of k).
-    let same : k ≡ kind = same_kind k kind (omega arith) low in
-    absent.least place (subst (λ (q : FaultKind). Has q place) same has))
-    (cases_lt (number_of k) (number_of kind))
+LacksBelow-more Has kind low before absent = search (rules, same_kind)
 
 -- The first kind that is present.
 pub IsAnswered-first : (Has : FaultKind → ℕ → Type 0) (kind : FaultKind) (place : ℕ) → number_of kind < 16 →
     LacksBelow Has (number_of kind) → IsLowest (Has kind) (Some place) → IsAnswered Has (fault_at kind place)
-IsAnswered-first Has kind place low before is = record {
-  present = is.present;
-  first = before;
-  lowest = λ k other same has. is.least other (subst (λ (q : FaultKind). Has q other) (same_kind k kind same low) has);
-  alone = refl;
-}
+IsAnswered-first Has kind place low before is = search (rules, same_kind)
 
 -- One step: a refusal if the kind has a place, and otherwise no fault with this number.
 pub refused : {U : Type 0} (u : U) (Has : FaultKind → ℕ → Type 0) (kind : FaultKind) (lowest : Option ℕ) (r : Result U Fault) →
     MatchOption lowest (r ≡ Ok u) (λ p. r ≡ Err (fault_at kind p)) → number_of kind < 16 → LacksBelow Has (number_of kind) →
     IsLowest (Has kind) lowest → MatchResult r (λ _. LacksBelow Has (number_of kind + 1)) (IsAnswered Has)
-refused u Has kind None r e low before is =
-    subst (λ (q : Result _ Fault). MatchResult q (λ _. LacksBelow Has (number_of kind + 1)) (IsAnswered Has)) (sym e)
-    (LacksBelow-more Has kind low before is)
-refused u Has kind (Some place) r e low before is =
-    subst (λ (q : Result _ Fault). MatchResult q (λ _. LacksBelow Has (number_of kind + 1)) (IsAnswered Has)) (sym e)
-    (IsAnswered-first Has kind place low before is)
+refused u Has kind None r e low before is = search (rules, LacksBelow-more)
+refused u Has kind (Some place) r e low before is = search (rules, IsAnswered-first)
 
 pub refused-lacks : {U : Type 0} (Has : FaultKind → ℕ → Type 0) (n : ℕ) (r : Result U Fault) →
     MatchResult r (λ _. LacksBelow Has n) (IsAnswered Has) → OnOk r (LacksBelow Has n)
@@ -108,13 +91,9 @@ refused-fault Has n (Err _) step = step
 pub went_on : {U : Type 0} (u : U) (Has : FaultKind → ℕ → Type 0) (kind : FaultKind) (lowest : Option ℕ) (r : Result U Fault) →
     MatchOption lowest (r ≡ Ok u) (λ p. r ≡ Err (fault_at kind p)) → r ≡ Ok u → number_of kind < 16 →
     LacksBelow Has (number_of kind) → IsLowest (Has kind) lowest → LacksBelow Has (number_of kind + 1)
-went_on u Has kind lowest r e ok low before is =
-    MatchResult-at_ok (λ _. LacksBelow Has (number_of kind + 1)) (IsAnswered Has) u ok
-    (refused u Has kind lowest r e low before is)
+went_on u Has kind lowest r e ok low before is = search (rules, refused)
 
 pub stopped : {U : Type 0} (u : U) (Has : FaultKind → ℕ → Type 0) (kind : FaultKind) (lowest : Option ℕ) (r : Result U Fault)
     (fault : Fault) → MatchOption lowest (r ≡ Ok u) (λ p. r ≡ Err (fault_at kind p)) → r ≡ Err fault → number_of kind < 16 →
     LacksBelow Has (number_of kind) → IsLowest (Has kind) lowest → IsAnswered Has fault
-stopped u Has kind lowest r fault e err low before is =
-    MatchResult-at_err (λ _. LacksBelow Has (number_of kind + 1)) (IsAnswered Has) fault err
-    (refused u Has kind lowest r e low before is)
+stopped u Has kind lowest r fault e err low before is = search (rules, refused)

@@ -1,6 +1,6 @@
 -- The segment that loads an address, found in a list sorted by address.
-use Rattle.std.proofs.Common.{◌≡◌, ◌∙◌, sym, ap, subst, refl, ℕ, ◌-◌, ◌<◌, ◌≤◌, true, false, IsTrue, List}
-use Rattle.std.proofs.Common.{length, get_or, Some, None, All, arith, inl, inr, ◌&&◌, nat_le, nat_lt}
+use Rattle.std.proofs.Common.{◌≡◌, ◌∙◌, sym, ap, subst, refl, ℕ, ◌-◌, ◌<◌, ◌≤◌, true, false, IsTrue, List, rules}
+use Rattle.std.proofs.Common.{length, get_or, Some, None, All, arith, inl, inr, nat_lt}
 use Rattle.std.specs.List.{Contains, find, filter}
 use Rattle.std.specs.List.Sorted.{IsNonDecreasingBy, IsPermutation}
 use Rattle.std.proofs.lemmas.Bool.{and_parts, and_from, leb-true, ltb-true, le-leb, lt-ltb, false_from_ne_true, both_ways, cases_lt}
@@ -16,37 +16,21 @@ use Rattle.rb_bytes.proofs.Searches.{find-found, find-finds, find-none, find-onl
 
 -- A segment loads an address if it is loaded and contains it.
 pub loads-parts : (a : ℕ) (p : Segment) → IsTrue (loads_address a p) → IsTrue (is_load p) × (p.vaddr ≤ a) × (a < end_of p)
-loads-parts a p loads =
-    let both = and_parts (is_load p && nat_le p.vaddr a) (nat_lt a (end_of p)) loads in
-    let front = and_parts (is_load p) (nat_le p.vaddr a) both.0 in
-    (front.0, leb-true p.vaddr a front.1, ltb-true a (end_of p) both.1)
+loads-parts a p loads = search (rules, and_parts, leb-true, ltb-true)
 
 pub loads-from_parts : (a : ℕ) (p : Segment) → IsTrue (is_load p) → p.vaddr ≤ a → a < end_of p → IsTrue (loads_address a p)
-loads-from_parts a p load low high =
-    and_from (is_load p && nat_le p.vaddr a) (nat_lt a (end_of p))
-    (and_from (is_load p) (nat_le p.vaddr a) load (le-leb p.vaddr a low)) (lt-ltb a (end_of p) high)
+loads-from_parts a p load low high = search (rules, and_from, le-leb, lt-ltb)
 
 pub has_memory-from_loads : (a : ℕ) (p : Segment) → IsTrue (loads_address a p) → IsTrue (has_memory p)
-has_memory-from_loads a p loads =
-    let parts = loads-parts a p loads in
-    and_from (is_load p) (nat_lt 0 p.memsz) parts.0 (lt-ltb 0 p.memsz (let low = parts.1 in let high = parts.2 in omega arith))
+has_memory-from_loads a p loads = search (rules, loads-parts, and_from, lt-ltb)
 
 -- The last address of a segment with memory.
 pub loads_last : (p : Segment) → has_memory p ≡ true → IsTrue (loads_address (end_of p - 1) p)
-loads_last p has =
-    let parts = and_parts (is_load p) (nat_lt 0 p.memsz) has in
-    let some : 0 < p.memsz = ltb-true 0 p.memsz parts.1 in
-    let from : nat_le p.vaddr (end_of p - 1) ≡ true = le-leb p.vaddr (end_of p - 1) (omega arith) in
-    let to : nat_lt (end_of p - 1) (end_of p) ≡ true = lt-ltb (end_of p - 1) (end_of p) (omega arith) in
-    and_from (is_load p && nat_le p.vaddr (end_of p - 1)) (nat_lt (end_of p - 1) (end_of p))
-    (and_from (is_load p) (nat_le p.vaddr (end_of p - 1)) parts.0 from) to
+loads_last p has = search (rules, and_parts, ltb-true, le-leb, lt-ltb, and_from)
 
 pub All-order : (segments some loads : List Segment) → some ≡ filter has_memory segments → IsPermutation some loads →
     All (λ p. IsTrue (has_memory p)) loads
-All-order segments some loads is order =
-    let HasMemory : Segment → Type 0 = λ p. IsTrue (has_memory p) in
-    All-permutation HasMemory some loads order
-    (All-same HasMemory some (filter has_memory segments) is (filter_passes has_memory segments))
+All-order segments some loads is order = search (rules, All-permutation, All-same, filter_passes)
 
 Contains-order : (segments some loads : List Segment) → some ≡ filter has_memory segments →
     IsPermutation some loads → (p : Segment) → Contains loads p → Contains segments p
@@ -88,19 +72,12 @@ segment_of-order segments some loads once is order a =
 -- If there is no such segment, no segment loads the address.
 pub segment_of-none_below : (loads : List Segment) (a : ℕ) →
     ((k : ℕ) (d : Segment) → k < length loads → a < (get_or loads k d).vaddr) → segment_of loads a ≡ None
-segment_of-none_below loads a above =
-    find-none (loads_address a) loads
-    (λ p p_in. false_from_ne_true (loads_address a p)
-    (λ loads_it. let low = (loads-parts a p loads_it).1 in let far = above p_in.0 p p_in.1 in
-    let same = ap (λ (q : Segment). q.vaddr) p_in.2 in omega arith))
+segment_of-none_below loads a above = search (rules, find-none, false_from_ne_true, loads-parts)
 
 -- If this segment loads the address, it is the result.
 pub segment_of-last : (loads : List Segment) (a i : ℕ) (d : Segment) → LoadOnce loads → i < length loads →
     IsTrue (loads_address a (get_or loads i d)) → segment_of loads a ≡ Some (get_or loads i d)
-segment_of-last loads a i d once within loads_it =
-    let here : Contains loads (get_or loads i d) = Contains-get_or loads i d within in
-    find-only (loads_address a) loads (get_or loads i d) here loads_it
-    (λ q q_in q_loads. once a q (get_or loads i d) q_in here q_loads loads_it)
+segment_of-last loads a i d once within loads_it = search (rules, get_or, Contains-get_or, find-only)
 
 -- A segment that loads the address, and starts at or below a last segment at or below the address, is that segment.
 same_as_last : (loads : List Segment) (a : ℕ) (p last : Segment) → LoadOnce loads → Contains loads p → Contains loads last →

@@ -1,7 +1,6 @@
 -- The lowest place of a set that is built from other sets.
 use Rattle.std.proofs.Common.{◌≡◌, subst, ℕ, ◌+◌, ◌≤◌, ◌<◌, ◌⊎◌, inl, inr, Bool, true, false, Option, Some, None, min, IfSome}
-use Rattle.std.proofs.Common.{IsSomeAnd, ⊎_elim, if◌then◌else◌, IsTrue, ◌↔◌, sym, not, arith, rules, refl}
-use Rattle.std.proofs.lemmas.Bool.{cases_lt}
+use Rattle.std.proofs.Common.{IsSomeAnd, if◌then◌else◌, IsTrue, ◌↔◌, sym, not, arith, rules, refl}
 use Rattle.rb_bytes.proofs.Tests.{if_not}
 use Rattle.elf_image.specs.faults.LowestPlace.{IsLowest, lower, SomeBelow}
 
@@ -29,12 +28,7 @@ lower-present : (P Q : ℕ → Type 0) (a b : Option ℕ) → IfSome a P → IfS
 lower-present P Q None None left right = search rules
 lower-present P Q None (Some b) left right = inr right
 lower-present P Q (Some a) None left right = inl left
-lower-present P Q (Some a) (Some b) left right =
-    let Either : ℕ → Type 0 = λ p. P p ⊎ Q p in
-    ⊎_elim
-    (λ (less : a < b). let e : a ≡ min a b = omega arith in subst Either e (inl left))
-    (λ (more : b ≤ a). let e : b ≡ min a b = omega arith in subst Either e (inr right))
-    (cases_lt a b)
+lower-present P Q (Some a) (Some b) left right = search (rules, min)
 
 -- A place at or above one of two places is at or above the lower of the two.
 pub least_left : (a b : Option ℕ) (p : ℕ) → IsSomeAnd a (λ l. l ≤ p) → IsSomeAnd (lower a b) (λ l. l ≤ p)
@@ -49,10 +43,7 @@ least_right (Some a) (Some b) p is = let below : b ≤ p = is in omega arith
 
 -- The places of either set.
 pub IsLowest-or : {P Q : ℕ → Type 0} (a b : Option ℕ) → IsLowest P a → IsLowest Q b → IsLowest (λ p. P p ⊎ Q p) (lower a b)
-IsLowest-or {P} {Q} a b left right = record {
-  present = lower-present P Q a b left.present right.present;
-  least = λ p. ⊎_elim (λ is. least_left a b p (left.least p is)) (λ is. least_right a b p (right.least p is));
-}
+IsLowest-or {P} {Q} a b left right = search (rules, lower-present, least_left, least_right)
 
 -- The places of the first structures, and of one more.
 pub IsLowest-begin : (S : ℕ → ℕ → Type 0) → IsLowest (SomeBelow 0 S) None
@@ -63,12 +54,7 @@ some_more S n p (inl is) = let below : is.0 < n = is.1 in (is.0, omega arith, is
 some_more S n p (inr is) = (n, omega arith, is)
 
 some_fewer : (S : ℕ → ℕ → Type 0) (n p : ℕ) → SomeBelow (n + 1) S p → SomeBelow n S p ⊎ S n p
-some_fewer S n p is =
-    let below : is.0 < n + 1 = is.1 in
-    ⊎_elim
-    (λ (less : is.0 < n). inl (is.0, less, is.2))
-    (λ (more : n ≤ is.0). let e : is.0 ≡ n = omega arith in inr (subst (λ (i : ℕ). S i p) e is.2))
-    (cases_lt is.0 n)
+some_fewer S n p is = search rules
 
 pub IsLowest-more : (S : ℕ → ℕ → Type 0) (n : ℕ) (a b : Option ℕ) → IsLowest (SomeBelow n S) a → IsLowest (S n) b →
     IsLowest (SomeBelow (n + 1) S) (lower a b)
@@ -85,11 +71,7 @@ IsLowest-next S n a b r e before here = subst (IsLowest _) (sym e) (IsLowest-mor
 
 pub IsLowest-place : (C : Type 0) (holds : Bool) (at place : ℕ) (r : Option ℕ) →
     r ≡ (if holds then Some at else None) → at ≡ place → IsTrue holds ↔ C → IsLowest (λ p. C × (p ≡ place)) r
-IsLowest-place C holds at place r e same test =
-    subst
-    (λ (l : ℕ). IsLowest (λ p. C × (p ≡ l)) r)
-    same
-    (subst (IsLowest _) (sym e) (IsLowest-if C holds at (λ is. search (rules, test)) (λ is. search (rules, test))))
+IsLowest-place C holds at place r e same test = search (rules, IsLowest-if)
 
 -- The end of a loop over all structures.
 pub IsLowest-all : (S : ℕ → ℕ → Type 0) (n count : ℕ) (o : Option ℕ) → n ≡ count → IsLowest (SomeBelow n S) o →

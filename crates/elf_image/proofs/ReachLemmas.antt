@@ -1,5 +1,5 @@
 -- Ranges that are extended to the greatest end of the ranges up to each.
-use Rattle.std.proofs.Common.{◌≡◌, ◌≢◌, Bool, IsTrue, ◌∙◌, sym, ap, subst, refl, ℕ, ◌+◌, ◌-◌, ◌≤◌, ◌<◌, inl, inr, ⊎_elim, ◌↔◌}
+use Rattle.std.proofs.Common.{◌≡◌, ◌≢◌, Bool, IsTrue, ◌∙◌, sym, ap, subst, refl, ℕ, ◌+◌, ◌-◌, ◌≤◌, ◌<◌, inl, inr, ⊎_elim, ◌↔◌, rules}
 use Rattle.std.proofs.Common.{List, [], ◌∷◌, ◌++◌, length, get_or, length-append, arith}
 use Rattle.std.specs.List.Sorted.{IsNonDecreasingBy, IsPermutation}
 use Rattle.std.proofs.lemmas.Bool.{cases_lt, and_parts}
@@ -77,13 +77,7 @@ IsCovered-from_reaches extents reaches n a e all rising are some (s, (k, within,
 
 pub IsCovered-to_reaches : (extents reaches : List Extent) (n a e : ℕ) → n ≡ length extents → AreReaches extents reaches n →
     IsInOneExtent extents a e → IsInOneExtent reaches a e
-IsCovered-to_reaches extents reaches n a e all are (s, (k, within, is), low, high) =
-    let count = are.count in
-    let start = are.start k s (omega arith) in
-    let at_start = ap (λ (r : Extent). r.start) is in
-    let at_end = ap (λ (r : Extent). r.end) is in
-    let far = (are.reach k s (omega arith)).above k s (omega arith) in
-    (get_or reaches k s, Contains-get_or reaches k s (omega arith), omega arith, omega arith)
+IsCovered-to_reaches extents reaches n a e all are (s, (k, within, is), low, high) = search (rules, get_or, Contains-get_or)
 
 -- If the last range that starts at or below a number contains all numbers up to an end, some range does.
 pub IsCovered-from_last : (extents : List Extent) (a e i : ℕ) (d : Extent) → i < length extents → (get_or extents i d).start ≤ a →

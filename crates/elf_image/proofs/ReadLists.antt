@@ -1,5 +1,5 @@
 -- One more header or symbol at the end of those that were read.
-use Rattle.std.proofs.Common.{◌≡◌, ◌∙◌, sym, ap, subst, refl, ℕ, zero, suc, ◌+◌, ◌*◌, List, [], ◌∷◌, ◌++◌, Some, length}
+use Rattle.std.proofs.Common.{◌≡◌, ◌∙◌, sym, ap, subst, refl, ℕ, zero, suc, ◌+◌, ◌*◌, List, [], ◌∷◌, ◌++◌, Some, length, rules}
 use Rattle.std.proofs.Common.{length-append, arith, ◌<◌, get_or, IsTrue, inl, inr}
 use Rattle.std.proofs.lemmas.Option.{same_Some}
 use Rattle.std.specs.List.{slice_get}
@@ -23,16 +23,8 @@ segments_from-none file o = refl
 pub segments_from-more : (file : List ℕ) (o n : ℕ) → segments_from file o n
     ++ segment_at file (o + PHDR_SIZE * n) ∷ [] ≡ segments_from file o (n + 1)
 unfolding segments_from
-segments_from-more file o zero =
-    let here : o + PHDR_SIZE * 0 ≡ o = omega arith in
-    ap (λ (k : ℕ). segment_at file k ∷ []) here
-segments_from-more file o (suc n) =
-    let rest = segments_from-more file (o + PHDR_SIZE) n in
-    let there : o + PHDR_SIZE * suc n ≡ o + PHDR_SIZE + PHDR_SIZE * n = omega arith in
-    let count : suc n + 1 ≡ suc (n + 1) = omega arith in
-    ap (λ (k : ℕ). segment_at file o ∷ (segments_from file (o + PHDR_SIZE) n ++ segment_at file k ∷ [])) there
-    ∙ ap (λ (xs : List _). segment_at file o ∷ xs) rest
-    ∙ ap (segments_from file o) (sym count)
+segments_from-more file o zero = search (rules, segment_at)
+segments_from-more file o (suc n) = search (rules, segment_at, segments_from-more file (o + PHDR_SIZE) n)
 
 -- A property of each element, and of one more.
 each_more : {A : Type 0} (P : ℕ → A → Type 0) (xs : List A) (x : A) → ((i : ℕ) (s : A) → slice_get xs i ≡ Some s → P i s) →
@@ -75,18 +67,14 @@ get_or-segments_from file o zero k d below = absurd (omega arith)
 get_or-segments_from file o (suc n) zero d below =
     let here : o ≡ o + PHDR_SIZE * 0 = omega arith in ap (segment_at file) here
 get_or-segments_from file o (suc n) (suc k) d below =
-    let there : o + PHDR_SIZE + PHDR_SIZE * k ≡ o + PHDR_SIZE * suc k = omega arith in
-    get_or-segments_from file (o + PHDR_SIZE) n k d (omega arith) ∙ ap (segment_at file) there
+    search (rules, segment_at, get_or-segments_from file (o + PHDR_SIZE) n k d (omega arith))
 
 pub length-segments_of : (file : List ℕ) → length (segments_of file) ≡ e_phnum file
 length-segments_of file = length-segments_from file (e_phoff file) (e_phnum file)
 
 pub get_or-segments : (file : List ℕ) (k : ℕ) (d : Segment) → k < length (segments_of file) → (k < e_phnum file)
     × (get_or (segments_of file) k d ≡ segment file k)
-get_or-segments file k d within =
-    let count = length-segments_of file in
-    let below : k < e_phnum file = omega arith in
-    (below, get_or-segments_from file (e_phoff file) (e_phnum file) k d below)
+get_or-segments file k d within = search (rules, length-segments_of, get_or-segments_from)
 
 -- If no segments share an address, each address is loaded at most once.
 pub LoadOnce-apart : (file : List ℕ) → ((place : ℕ) → SomeBelow (e_phnum file) (SharesAddress file) place → ⊥) →

@@ -1,11 +1,9 @@
 -- A file that isn't truncated contains all its structures.
-use Rattle.std.proofs.Common.{◌≡◌, ◌≤◌, ◌<◌, ◌+◌, inl, inr, ⊎_elim, ℕ, zero, suc, List, Bool, true, false, Option, Some, None}
-use Rattle.std.proofs.Common.{if◌then◌else◌, length, IfSome, IfNone, sym, refl, subst, arith, rules}
+use Rattle.std.proofs.Common.{◌≡◌, ◌≤◌, ◌<◌, ◌+◌, inl, inr, ⊎_elim, ℕ, zero, suc, List, Option, Some, None}
+use Rattle.std.proofs.Common.{length, IfSome, IfNone, refl, arith, rules}
 use Rattle.std.proofs.lemmas.Bool.{cases_lt, cases_Bool}
 use Rattle.std.proofs.lemmas.Bool.Decides.{eqb_tells}
-use Rattle.std.specs.Prelude.{◌==◌}
 use Rattle.elf_image.specs.declared.section.SectionHeader.{SectionHeader}
-use Rattle.elf_image.specs.declared.section.TheConstants.{SHT_NOBITS, SHT_SYMTAB}
 use Rattle.elf_image.specs.declared.segment.TheConstants.{PT_LOAD}
 use Rattle.elf_image.specs.faults.Truncation.{IsWhole, HasHeader, HasSegments, HasSections, HasContents, HasSymbolNames}
 use Rattle.elf_image.specs.faults.Truncation.{IsTruncated, IsTruncatedBeyond, IsReadable}
@@ -16,35 +14,17 @@ use Rattle.elf_image.specs.faults.LowestPlace.{IsLowest}
 
 -- Completeness of a range is decidable, so a range that can't be incomplete is complete.
 IsWhole-stable : (file : List ℕ) (offset size : ℕ) → ((IsWhole file offset size → ⊥) → ⊥) → IsWhole file offset size
-IsWhole-stable file offset size not_truncated =
-    elim (eqb_tells size 0) [
-      | inl same ↦ inl same.1
-      | inr differ ↦
-          ⊎_elim
-          (λ (short : length file < offset + size). absurd
-          (not_truncated (⊎_elim (λ e. differ.1 e) (λ (fits : offset + size ≤ length file). omega arith))))
-          (λ (fits : offset + size ≤ length file). inr fits)
-          (cases_lt (length file) (offset + size))
-    ]
+IsWhole-stable file offset size not_truncated = search (rules, eqb_tells)
 
 HasContents-stable : (file : List ℕ) (s : SectionHeader) → ((HasContents file s → ⊥) → ⊥) → HasContents file s
-HasContents-stable file s not_truncated =
-    elim (eqb_tells s.kind SHT_NOBITS) [
-      | inl same ↦ inl same.1
-      | inr differ ↦ inr (IsWhole-stable file s.offset s.size (λ truncated. not_truncated (⊎_elim (λ e. differ.1 e) truncated)))
-    ]
+HasContents-stable file s not_truncated = search (rules, eqb_tells, IsWhole-stable)
 
 -- What holds for all sections holds for the symbol table.
 symbol_table_from-all : (P : SectionHeader → Type 0) (file : List ℕ) (i n count : ℕ) → i + n ≡ count →
     ((j : ℕ) → j < count → P (section_header file j)) → IfSome (symbol_table_from file i n) P
 symbol_table_from-all P file i zero count e all = search rules
 symbol_table_from-all P file i (suc n) count e all =
-    let rest = symbol_table_from-all P file (i + 1) n count (omega arith) all in
-    let Chosen : Bool → Type 0 = λ b. IfSome (if b then Some (section_header file i) else symbol_table_from file (i + 1) n) P in
-    ⊎_elim
-    (λ (yes : ((section_header file i).kind == SHT_SYMTAB) ≡ true). subst Chosen (sym yes) (all i (omega arith)))
-    (λ (no : ((section_header file i).kind == SHT_SYMTAB) ≡ false). subst Chosen (sym no) rest)
-    (cases_Bool ((section_header file i).kind == SHT_SYMTAB))
+    search (rules, section_header, cases_Bool, symbol_table_from-all P file (i + 1) n count (omega arith) all)
 
 module _ (file : List ℕ) (none : (place : ℕ) → IsTruncated file place → ⊥) where
   header : HasHeader file

@@ -1,5 +1,5 @@
 -- The ranges of segments, and segments that overlap.
-use Rattle.std.proofs.Common.{◌≡◌, ◌≢◌, ◌∙◌, sym, ap, subst, refl, ℕ, ◌+◌, ◌<◌, inl, inr, ◌↔◌, IsTrue, List, [], ◌∷◌, ◌++◌}
+use Rattle.std.proofs.Common.{◌≡◌, ◌≢◌, ◌∙◌, sym, ap, subst, refl, ℕ, ◌+◌, ◌<◌, inl, inr, ◌↔◌, IsTrue, List, [], ◌∷◌, ◌++◌, rules}
 use Rattle.std.proofs.Common.{get_or, Option, Some, None, IfSome, IfNone, All, arith}
 use Rattle.std.specs.List.{Contains}
 use Rattle.std.specs.Option.{option_to_list}
@@ -11,7 +11,7 @@ use Rattle.elf_image.specs.declared.extent.Extent.{Extent}
 use Rattle.elf_image.specs.declared.faults.segment_extents.ExtentKind.{ExtentKind}
 use Rattle.elf_image.specs.declared.faults.segment_extents.ExtentKind.TheVariants.{Addresses, CodeAddresses, FileBytes}
 use Rattle.elf_image.specs.file.Header.{segment, segment_place}
-use Rattle.elf_image.specs.memory.Image.{is_load, end_of, loads_address}
+use Rattle.elf_image.specs.memory.Image.{end_of, loads_address}
 use Rattle.elf_image.specs.faults.SegmentLayout.{IsFileByte}
 use Rattle.elf_image.specs.faults.LowestPlace.{IsLowest, SomeBelow}
 use Rattle.elf_image.specs.internal.SegmentExtents.{IsCodeExtent, IsAddressExtent, IsFileExtent, IsExtentOf, AreExtents}
@@ -154,14 +154,7 @@ IsAddressExtent-some file i a loads =
 
 pub IsAddressExtent-holds : (file : List ℕ) (i a : ℕ) (s : Extent) → IsAddressExtent file i s →
     IsAddressOf file i a ↔ IsInExtent a s
-IsAddressExtent-holds file i a s (load, start, end, some, place) = (
-  (λ loads.
-      let parts = loads-parts a (segment file i) loads in
-      let low = parts.1 in
-      let high = parts.2 in
-      (omega arith, omega arith)),
-  (λ (low, high). loads-from_parts a (segment file i) load (omega arith) (omega arith)),
-)
+IsAddressExtent-holds file i a s (load, start, end, some, place) = search (rules, loads-parts, segment, loads-from_parts)
 
 -- Bytes of the file.
 
@@ -184,10 +177,7 @@ IsFileExtent-some file i k (load, low, high) =
     (record { start = p.offset; end = p.offset + p.filesz; place = segment_place file i }, (load, refl, refl, omega arith, refl))
 
 pub IsFileExtent-holds : (file : List ℕ) (i k : ℕ) (s : Extent) → IsFileExtent file i s → IsByteOf file i k ↔ IsInExtent k s
-IsFileExtent-holds file i k s (load, start, end, some, place) = (
-  (λ (is_load, low, high). (omega arith, omega arith)),
-  (λ (low, high). (load, omega arith, omega arith)),
-)
+IsFileExtent-holds file i k s (load, start, end, some, place) = search rules
 
 -- Addresses of executable segments.
 

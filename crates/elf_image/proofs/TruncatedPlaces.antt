@@ -1,5 +1,5 @@
 -- The places of names without an end, as the code finds them.
-use Rattle.std.proofs.Common.{◌≡◌, ◌≢◌, ◌∙◌, sym, inl, inr, ⊎_elim, zero, ◌≤◌, ◌<◌, ◌+◌, ◌-◌, ℕ, suc, List, Bool, true, false}
+use Rattle.std.proofs.Common.{◌≡◌, ◌≢◌, inr, ⊎_elim, zero, ◌≤◌, ◌<◌, ◌+◌, ◌-◌, ℕ, suc, List, rules}
 use Rattle.std.proofs.Common.{Option, Some, None, nat_le, if◌then◌else◌, subst, ap, arith}
 use Rattle.std.proofs.lemmas.Bool.{eq-eqb}
 use Rattle.std.proofs.lemmas.Bool.Decides.{nat_tests, eqb_tells}
@@ -38,21 +38,11 @@ symbol_table_from-next file i n below =
 
 pub symbol_table_from-found : (file : List ℕ) (i n : ℕ) → i < n → (section_header file i).kind ≡ SHT_SYMTAB →
     symbol_table_from file i (n - i) ≡ Some (section_header file i)
-symbol_table_from-found file i n below is =
-    let test : ((section_header file i).kind == SHT_SYMTAB) ≡ true = eq-eqb _ _ is in
-    symbol_table_from-next file i n below
-    ∙ ap (λ (b : Bool). if b then Some (section_header file i) else symbol_table_from file (i + 1) (n - (i + 1))) test
+symbol_table_from-found file i n below is = search (rules, section_header, eq-eqb, symbol_table_from-next)
 
 pub symbol_table_from-other : (file : List ℕ) (i n : ℕ) → i < n → (section_header file i).kind ≢ SHT_SYMTAB →
     symbol_table_from file (i + 1) (n - (i + 1)) ≡ symbol_table_from file i (n - i)
-symbol_table_from-other file i n below other =
-    let test : ((section_header file i).kind == SHT_SYMTAB) ≡ false =
-    elim (eqb_tells (section_header file i).kind SHT_SYMTAB) [ inl same ↦ absurd (other same.1) | inr differ ↦ differ.0 ] in
-    sym
-    (
-    symbol_table_from-next file i n below
-    ∙ ap (λ (b : Bool). if b then Some (section_header file i) else symbol_table_from file (i + 1) (n - (i + 1))) test
-    )
+symbol_table_from-other file i n below other = search (rules, section_header, eqb_tells, symbol_table_from-next)
 
 pub symbol_table_from-none : (file : List ℕ) (i n : ℕ) → n ≤ i → symbol_table_from file i (n - i) ≡ None
 symbol_table_from-none file i n past = let left : n - i ≡ zero = omega arith in ap (λ (k : ℕ). symbol_table_from file i k) left

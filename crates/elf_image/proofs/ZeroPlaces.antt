@@ -1,5 +1,5 @@
 -- The indices of zero bytes in a string table, and the string that ends at one.
-use Rattle.std.proofs.Common.{◌≡◌, ◌≢◌, ◌∙◌, sym, ap, subst, refl, ℕ, zero, suc, ◌+◌, ◌-◌, ◌≤◌, ◌<◌, inl, inr, ⊎_elim, Bool, true}
+use Rattle.std.proofs.Common.{◌≡◌, ◌≢◌, ◌∙◌, sym, ap, subst, ℕ, zero, suc, ◌+◌, ◌-◌, ◌≤◌, ◌<◌, inl, inr, ⊎_elim, Bool, true, rules}
 use Rattle.std.proofs.Common.{false, not, List, [], ◌∷◌, length, get_or, take, drop, length-drop, ltb, ltb-true, arith}
 use Rattle.std.proofs.lemmas.Bool.{cases_Bool, cases_lt, cond-true, cond-false, eqb-true, eq-eqb}
 use Rattle.std.proofs.lemmas.Bool.Decides.{eqb_tells, nat_tests}
@@ -46,34 +46,24 @@ module _ (test : ℕ → Bool) (hay : List ℕ) (i high : ℕ) (later : List ℕ
 
 skip-listed : (test : ℕ → Bool) (hay : List ℕ) (i high : ℕ) (later : List ℕ) → (Passes test hay i → ⊥) →
     AreListed test hay (i + 1) high later → AreListed test hay i high later
-skip-listed test hay i high later fails rest = record {
-  each = λ k d lt. let was = rest.each k d lt in let low : i + 1 ≤ get_or later k d = was.0 in (omega arith, was.1, was.2);
-  rising = rest.rising;
-  all = λ p d from to passes.
-      ⊎_elim
-      (λ (more : i < p). rest.all p d (omega arith) to passes)
-      (λ (less : p ≤ i). let same : p ≡ i = omega arith in absurd (fails (subst (Passes test hay) same passes)))
-      (cases_lt i p);
-}
+skip-listed test hay i high later fails rest = search (rules, get_or)
 
 pub places_from-listed : (test : ℕ → Bool) (hay : List ℕ) (i n high : ℕ) → i + n ≡ high →
     AreListed test hay i high (places_from test hay i n)
 unfolding places_from
-places_from-listed test hay i zero high e = record {
-  each = λ k d lt. absurd (omega arith);
-  rising = λ j k d le lt. absurd (omega arith);
-  all = λ p d from to passes. absurd (omega arith);
-}
+places_from-listed test hay i zero high e = search rules
 places_from-listed test hay i (suc n) high e =
-    let later = places_from test hay (i + 1) n in
-    let rest = places_from-listed test hay (i + 1) n high (omega arith) in
-    let Listed : List ℕ → Type 0 = AreListed test hay i high in
-    ⊎_elim
-    (λ (yes : test (get_or hay i 0) ≡ true). subst Listed (sym (cond-true _ _ _ yes))
-    (cons-listed test hay i high later yes (omega arith) rest))
-    (λ (no : test (get_or hay i 0) ≡ false). subst Listed (sym (cond-false _ _ _ no))
-    (skip-listed test hay i high later (λ yes. let never : false ≡ true = sym no ∙ yes in cc) rest))
-    (cases_Bool (test (get_or hay i 0)))
+    search (
+      rules,
+      get_or,
+      cond-true,
+      cons-listed,
+      cond-false,
+      skip-listed,
+      cases_Bool,
+      places_from-listed test hay (i + 1) n high
+          (omega arith),
+    )
 
 pub places-listed : (table : List ℕ) → AreListed (is_byte 0) table 0 (length table) (places (is_byte 0) table)
 places-listed table = places_from-listed (is_byte 0) table 0 (length table - 0) (length table) (omega arith)
@@ -142,11 +132,7 @@ text_of-end table index end is le =
     ap (λ (n : ℕ). take n (drop index table)) (sym count)
 
 pub text_of-past : (table : List ℕ) (index end : ℕ) → IsTextEnd table index end → end < index → [] ≡ text_of table index
-text_of-past table index end is past =
-    ⊎_elim
-    (λ (low : length table < index). let none : drop index table ≡ [] = grind (arith, common_steps) in rw none refl)
-    (λ (high : index ≤ length table). let above : index ≤ end = is.after high in absurd (omega arith))
-    (cases_lt (length table) index)
+text_of-past table index end is past = grind (arith, common_steps, drop)
 
 -- From a binary search among the zero bytes.
 zeros-listed : (table zs : List ℕ) → zs ≡ places (is_byte 0) table → AreListed (is_byte 0) table 0 (length table) zs
