@@ -1,12 +1,11 @@
 -- Addresses between which no range begins or ends.
 use Rattle.std.proofs.Common.{◌≡◌, ◌∙◌, ◌==◌, ◌&&◌, ◌||◌, ◌∷◌, [], ℕ, Bool, not, List, All, refl, sym, ap, arith}
-use Rattle.std.proofs.Common.{map, filter, nat_le, nat_lt}
+use Rattle.std.proofs.Common.{nat_le, nat_lt}
 use Rattle.std.proofs.lemmas.Bool.Decides.{nat_tests}
 use Rattle.std.proofs.lemmas.List.Elements.{All-head, All-tail}
 use Rattle.cover_lists.specs.declared.cover_tree.Cover.{Cover}
-use Rattle.cover_lists.specs.declared.groups.RangedEntry.{RangedEntry}
 use Rattle.cover_lists.specs.Bounds.{bounds_in}
-use Rattle.cover_lists.specs.Groups.{group_holds, held_places}
+use Rattle.cover_lists.specs.Groups.{group_holds}
 
 lt_not : (a x : ℕ) → nat_lt a x ≡ not (nat_le x a)
 lt_not a x = grind (arith, nat_tests)
@@ -23,8 +22,3 @@ alike_groups (c ∷ cs) a b g same =
     let rest : group_holds cs g a ≡ group_holds cs g b = alike_groups cs a b g
     (All-tail (λ x. nat_le x a ≡ nat_le x b) c.high (bounds_in cs) more) in
     λ i. ((c.group == g) && (low i && high i)) || rest i
-
-pub held_alike_at : (cs : List Cover) (rs : List RangedEntry) (a b : ℕ) → ((g : ℕ) → group_holds cs g a ≡ group_holds cs g b) →
-    held_places cs rs a ≡ held_places cs rs b
-held_alike_at cs rs a b same =
-    ap (λ (t : RangedEntry → Bool). map (λ (r : RangedEntry). r.place) (filter t rs)) (λ i r. same r.group i)

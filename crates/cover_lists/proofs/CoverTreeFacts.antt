@@ -2,8 +2,8 @@
 use Rattle.std.proofs.Common.{ℕ, zero, suc, ◌+◌, ◌-◌, ◌≤◌, ◌<◌, ◌≡◌, List, [], ◌∷◌, ◌++◌, Bool, true, false, cond}
 use Rattle.std.proofs.Common.{set, refl, sym, ◌∙◌, ap, subst, arith, length, map, get_or, take, drop, filter, append_assoc}
 use Rattle.std.specs.Prelude.{All, ◌&&◌, nat_le, nat_lt}
-use Rattle.std.proofs.lemmas.List.{take-take, drop-take, drop-drop, drop_more, drop-set-lt, take-append-drop, map-append, map-set, set-get_or}
-use Rattle.std.proofs.lemmas.List.{get_or-map, get_or-set_same, length-map, length-set}
+use Rattle.std.proofs.lemmas.List.{take-take, drop-take, drop-drop, drop_more, drop-set-lt, take-append-drop, map-append, map-set}
+use Rattle.std.proofs.lemmas.List.{get_or-map, get_or-set_same, length-map, length-set, set-get_or}
 use Rattle.std.proofs.lemmas.List.Elements.{All-head, All-tail, All-append, All-take, filter-append}
 use Rattle.std.proofs.lemmas.Bool.Decides.{nat_tests}
 use Rattle.cover_lists.specs.declared.cover_tree.Cover.{Cover}

@@ -15,4 +15,3 @@ mod FoundLists
 mod StretchFacts
 mod StretchRuns
 mod CarriedLists
-mod ListWeightFacts

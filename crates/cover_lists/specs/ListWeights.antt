@@ -6,8 +6,6 @@ use Rattle.answer_runs.specs.declared.run.Run.{Run}
 use Rattle.answer_runs.specs.AnswerRuns.{carried}
 use Rattle.answer_runs.specs.Choices.{unless_empty}
 use Rattle.answer_runs.specs.Weights.{run_weight, IsWeightOf}
-use Rattle.cover_lists.specs.declared.kept_list.KeptList.{KeptList}
-use Rattle.cover_lists.specs.KeptLists.{all_say}
 
 -- The sum of weights, one for each element.
 pub data IsSumOf {X : Type 0} (Weighs : X → ℕ → Type 0) : List X → ℕ → Type 0 where
@@ -32,7 +30,3 @@ total_weight lists = sum_by (λ (v : Vec (Run (Vec (Vec ℕ)))). list_weight v.i
 -- The weight of a list's expressions at the owners of new bytes.
 abbrev pub IsSaidWeight : List Span → (ℕ → List (List ℕ)) → ℕ → Type 0
 IsSaidWeight spans says weight = IsWeightOf expressions_weight (carried (λ a. unless_empty (says a)) spans) weight
-
--- The weight of the expressions of all lists there.
-abbrev pub IsListsWeight : List KeptList → List Span → ℕ → Type 0
-IsListsWeight lists spans weight = IsSumOf (IsSaidWeight spans) (all_say lists) weight

@@ -48,16 +48,12 @@ fn put_list_bounds(bounds: &mut Vec<u128>, lists: &[KeptList]) -> Result<(), NoM
     Ok(())
 }
 
-/// The first addresses and the ends of ranges and of the ranges in location lists, ascending.
-pub fn place_bounds(
-    alloc: Global,
-    covers: &[Cover],
-    lists: &[KeptList],
-) -> Result<Vec<u128>, NoMemory>
+/// The first addresses and the ends of the ranges in location lists, ascending.
+pub fn place_bounds(alloc: Global, lists: &[KeptList]) -> Result<Vec<u128>, NoMemory>
     ensures rising { IfOk result (λ bs. IsNonDecreasing bs.items) }
-    ensures all { IfOk result (λ bs. IsPermutation (bounds_in covers.now ++ list_bounds lists.now) bs.items) }
+    ensures all { IfOk result (λ bs. IsPermutation (list_bounds lists.now) bs.items) }
 {
-    let mut bounds = all_bounds(alloc, covers)?;
+    let mut bounds = Vec::new(alloc);
     put_list_bounds(&mut bounds, lists)?;
     bounds.sort_unstable();
     Ok(bounds)
@@ -104,7 +100,7 @@ fn count_beside(bounds: &[u128], near: usize, a: u64) -> Option<usize>
             return Some(k);
         }
     }
-    None
+    if end == bounds.len() { Some(end) } else { None }
 }
 
 // Whether `count` bounds or more are at most `a`.

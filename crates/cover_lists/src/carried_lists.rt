@@ -32,7 +32,7 @@ pub fn carried_lists(
     if lists.is_empty() {
         return Ok(Vec::new(alloc));
     }
-    let bounds = place_bounds(alloc, &[], lists)?;
+    let bounds = place_bounds(alloc, lists)?;
     let stretches = stretches_of(alloc, &bounds, map)?;
     let finder = ListFinder::new(alloc, lists)?;
     list_runs(alloc, lists, &finder, &stretches)

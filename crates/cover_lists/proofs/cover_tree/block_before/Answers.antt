@@ -17,8 +17,8 @@ returns-clause-block c =
     let at : c.saturating_add.result ≡ n = omega (arith, less) in
     let same : other.more + 1 ≡ n = omega (arith, c.if-one-other.false) in
     let front : AreReached low high (take n (covers_of after)) =
-    All-weaker (IsReachedBy one.low one.high) (IsReachedBy low high) (λ x r. (omega (arith, r.0), omega (arith, r.1))) (take n (covers_of after))
-    (block_at after 0 one (omega (arith, less)) c.in-Some.ensures.item.1 c.requires) in
+    All-weaker (IsReachedBy one.low one.high) (IsReachedBy low high) (λ x r. (omega (arith, r.0), omega (arith, r.1)))
+    (take n (covers_of after)) (block_at after 0 one (omega (arith, less)) c.in-Some.ensures.item.1 c.requires) in
     let back : AreReached low high (take n (drop n (covers_of after))) =
     All-weaker (IsReachedBy other.low other.high) (IsReachedBy low high) (λ x r. (omega (arith, r.0), omega (arith, r.1)))
     (take n (drop n (covers_of after)))

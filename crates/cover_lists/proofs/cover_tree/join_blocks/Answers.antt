@@ -9,6 +9,7 @@ loop-index-preserved c =
     let ns : List Node = c.loop-index.nodes in
     let j : ℕ = c.loop-index.index - 1 in
     let next : c.loop-index.index ≡ j + 1 = omega (arith, c.loop-index-test.true) in
-    joined ns c.args.nodes.now j c.block_before.result _ (omega (arith, c.loop-index-test.true, c.loop-index.auto.index)) c.block_before.ensures.cover
+    joined ns c.args.nodes.now j c.block_before.result _ (omega (arith, c.loop-index-test.true, c.loop-index.auto.index))
+    c.block_before.ensures.cover
     (subst (λ (l : List Node). IsBlock c.block_before.result (covers_of l)) c.split_at.ensures.back c.block_before.ensures.block)
     (c.loop-index.invariant.0, subst (λ (k : ℕ). AreBlocks (drop k ns)) next c.loop-index.invariant.1)

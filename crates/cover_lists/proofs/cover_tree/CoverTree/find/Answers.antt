@@ -25,13 +25,13 @@ loop-index-preserved c =
     let n : Node = c.index-node.result.now in
     elim c.if-holds.branch [
       | then-holds+in_ok-push w ↦
-          one_more nodes c.loop-index.index n c.args.a true c.loop-index.groups.items c.if-holds.groups.items (omega arith) c.index-node.ensures
-          (sym c.holds.ensures ∙ w.if-holds.true)
+          one_more nodes c.loop-index.index n c.args.a true c.loop-index.groups.items c.if-holds.groups.items (omega arith)
+          c.index-node.ensures (sym c.holds.ensures ∙ w.if-holds.true)
           (ap items w.groups-is ∙ w.in_ok-push.ensures.items)
           ∙ c.loop-index.invariant
       | else-holds w ↦
-          one_more nodes c.loop-index.index n c.args.a false c.loop-index.groups.items c.if-holds.groups.items (omega arith) c.index-node.ensures
-          (sym c.holds.ensures ∙ w.if-holds.false)
+          one_more nodes c.loop-index.index n c.args.a false c.loop-index.groups.items c.if-holds.groups.items (omega arith)
+          c.index-node.ensures (sym c.holds.ensures ∙ w.if-holds.false)
           (ap items w.groups-is ∙ sym (append-nil c.loop-index.groups.items))
           ∙ c.loop-index.invariant
     ]
