@@ -23,7 +23,8 @@ use Rattle.line_rewrite.specs.declared.run_writer.Going.{Going}
 use Rattle.line_rewrite.specs.Operations.{is_whole, whole_within}
 use Rattle.line_rewrite.specs.LineMachine.{after_row}
 use Rattle.line_rewrite.specs.Written.{IsRow, unless, line_distance, above_base, step_ops, row_ops, rows_ops, spelled, all_spelled}
-use Rattle.line_rewrite.specs.WrittenPrograms.{Piece, piece_end, first_file, opened, close_ops, open_ops, run_ops, piece_ops, going_after, closing_ops}
+use Rattle.line_rewrite.specs.WrittenPrograms.{Piece, piece_end, first_file, opened, close_ops, open_ops, run_ops, piece_ops}
+use Rattle.line_rewrite.specs.WrittenPrograms.{going_after, closing_ops}
 use Rattle.line_rewrite.proofs.PieceSequences.{program_ops}
 use Rattle.line_rewrite.proofs.RowOps.{spelled_append, first2, first3, first4, first5, first6, first7, first8}
 use Rattle.line_rewrite.proofs.Soundness.{whole_step}

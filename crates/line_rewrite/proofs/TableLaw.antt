@@ -1,18 +1,18 @@
 -- The law of the written table: it has no fault, has the answers of its runs, and keeps units.
-use Rattle.std.proofs.Common.{◌≡◌, ◌∙◌, ◌<◌, ◌-◌, ◌+◌, ◌^◌, ℕ, suc, List, [], ◌∷◌, Option, Some, None, refl, sym, ap, subst}
+use Rattle.std.proofs.Common.{◌≡◌, ◌∙◌, ◌<◌, ◌≤◌, ◌-◌, ◌+◌, ◌^◌, ℕ, suc, List, [], ◌∷◌, Option, Some, None, refl, sym, ap, subst}
 use Rattle.std.proofs.Common.{arith, length, map, option_map, Bool, true, false, cond}
-use Rattle.std.specs.Prelude.{All, find, filter_map, flat_map, option_and_then, slice_get, not, is_some}
+use Rattle.std.specs.Prelude.{All, find, filter_map, flat_map, option_and_then, slice_get, not, is_some, sum_by}
 use Rattle.std.proofs.lemmas.List.{length-map}
-use Rattle.std.proofs.lemmas.Iterator.Adapters.{option_map_id}
 use Rattle.elf_image.specs.declared.elf.Elf.{Elf}
 use Rattle.rb_bytes.specs.FirstFault.{IsFree}
 use Rattle.addr_map.specs.declared.span.Span.{Span}
 use Rattle.answer_runs.specs.AddressRanges.{AreApart}
-use Rattle.answer_runs.specs.AnswerRuns.{IsWithin, run_at, said_runs, carried}
-use Rattle.answer_runs.specs.CarriedAnswers.{Agree, IsCarried}
+use Rattle.answer_runs.specs.AnswerRuns.{IsWithin, run_at, carried}
+use Rattle.answer_runs.specs.CarriedAnswers.{Agree, IsCarried, IsCarriedFrom}
 use Rattle.answer_runs.specs.Choices.{unless_any}
 use Rattle.answer_runs.specs.declared.first_range.FirstRange.{FirstRange}
 use Rattle.answer_runs.specs.declared.run.Run.{Run}
+use Rattle.answer_runs.specs.Weights.{weight_limit}
 use Rattle.table_core.specs.DebugUnits.{Walked, walked}
 use Rattle.table_core.specs.declared.written.Written.{Written}
 use Rattle.table_core.specs.WrittenUnits.{units_bytes, walked_units}
@@ -30,8 +30,9 @@ use Rattle.line_rewrite.specs.LineUnits.{LineUnit, unit_in}
 use Rattle.line_rewrite.specs.Tables.{LineSections, line_sections, line_version, line_fault, line_at, line_answers, HasLineFault}
 use Rattle.line_rewrite.specs.Tables.{AreSequencesApart, StandsLines}
 use Rattle.line_rewrite.specs.UnitLists.{AreLines}
-use Rattle.line_rewrite.specs.WrittenRuns.{placed_by, placed, with_runs, begun, AllRowsFit}
+use Rattle.line_rewrite.specs.WrittenRuns.{placed_by, placed, with_runs, begun, cut_runs, most_cuts, AllRowsFit}
 use Rattle.line_rewrite.specs.WrittenUnits.{written_units, spelled_units}
+use Rattle.line_rewrite.proofs.CutRuns.{all_at_cuts, all_weight, all_within}
 use Rattle.line_rewrite.proofs.FoundRows.{unit_stands, moved_said}
 use Rattle.line_rewrite.proofs.LineFaults.{units_are, line_free}
 use Rattle.line_rewrite.proofs.RunPieces.{has_run}
@@ -39,7 +40,8 @@ use Rattle.line_rewrite.proofs.SequencesApart.{sequences_apart}
 use Rattle.line_rewrite.proofs.TableBack.{run_found, new_units, new_bytes, all_written}
 use Rattle.line_rewrite.proofs.TableSays.{said_rows, says_none, says_some, units_walked, all_back, none_bad, none_other}
 use Rattle.line_rewrite.proofs.TableSays.{walked_count, bytes_same, tables_kept, files_kept}
-use Rattle.line_rewrite.proofs.TableSizes.{AllStart, answered, all_start, table_small, all_small}
+use Rattle.line_rewrite.proofs.TableReads.{weight_in}
+use Rattle.line_rewrite.proofs.TableSizes.{AllStart, IsWritable, answered, all_start, table_small, all_small}
 
 -- The run that contains an address begins with its answer.
 found_starts : (wanted : ℕ → Option LineSaid) (p : ℕ) (rs : List (Run LineSaid)) (r : Run LineSaid) → AllStart wanted rs
@@ -68,7 +70,7 @@ new_count strings us spans rs k (u ∷ more) = ap suc (new_count strings us span
 
 module _ (s : LineSections) (us : List kept.Unit) (index : SequenceIndex) (offsets : FirstRange) (are : AreLines s us index offsets)
     (spans : List Span) (rs : List (Run LineSaid))
-    (within : IsWithin 0 rs (2 ^ 64 - 1)) (answers : (p : ℕ) → run_at rs p ≡ carried (line_at s) spans p) (fits : LineFits s spans rs) where
+    (within : IsWithin 0 rs (2 ^ 64 - 1)) (answers : (p : ℕ) → run_at rs p ≡ carried (line_at s) spans p) (fits : IsWritable s rs) where
   small : All (λ b. length b < 2 ^ 32 - 1) (new_bytes s.strings us spans rs 0 us)
   small = all_small (2 ^ 32 - 1) (new_bytes s.strings us spans rs 0 us) (table_small s us index offsets are spans rs within answers fits)
 
@@ -205,45 +207,46 @@ module _ (s : LineSections) (us : List kept.Unit) (index : SequenceIndex) (offse
           omega (arith, ap length (e ∙ bytes_are), size);
     }
 
--- In the form that the trait needs, if a run's answer is the right one.
-
-same_runs : (rs : List (Run LineSaid)) → said_runs (λ x. x) rs ≡ rs
-same_runs [] = refl
-same_runs (r ∷ rs) = ap (λ (l : List (Run LineSaid)). r ∷ l) (same_runs rs)
+-- The same of runs that are cut, if a whole run's answer is the right one.
 
 module _ (self s : LineSections) (view : self ≡ s) (us now : List kept.Unit) (same : now ≡ us) (index : SequenceIndex)
     (offsets : FirstRange) (are : AreLines s us index offsets)
     (spans : List Span) (rs : List (Run LineSaid)) (within : IsWithin 0 rs (2 ^ 64 - 1))
-    (answers : (p : ℕ) → option_map (λ x. x) (run_at rs p) ≡ carried (line_at self) spans p)
-    (fits : LineFits self spans (said_runs (λ x. x) rs)) where
+    (answers : (p : ℕ) → run_at rs p ≡ carried (line_at self) spans p)
+    (fits : LineFits self spans rs) (cs : List ℕ) (few : length cs ≤ most_cuts) where
   are_lines : AreLines self now index offsets
   are_lines =
       subst (λ (t : LineSections). AreLines t now index offsets) (sym view)
       (subst (λ (l : List kept.Unit). AreLines s l index offsets) (sym same) are)
 
-  run_answers : (p : ℕ) → run_at rs p ≡ carried (line_at self) spans p
-  run_answers p = sym (option_map_id (run_at rs p)) ∙ answers p
+  cut_answers : (p : ℕ) → run_at (cut_runs cs rs) p ≡ carried (line_at self) spans p
+  cut_answers p = all_at_cuts p cs rs ∙ answers p
 
-  run_fits : LineFits self spans rs
-  run_fits = subst (LineFits self spans) (same_runs rs) fits
+  cut_fits : IsWritable self (cut_runs cs rs)
+  cut_fits =
+      let whole : sum_by weight_in rs ≤ weight_limit = fits.1 in
+      (fits.0, omega (arith, whole, few, all_weight cs rs))
 
-  pub small_units : All (λ b. length b < 2 ^ 32 - 1) (written_units now (with_runs now spans (begun now) rs))
-  small_units = writes_small self now index offsets are_lines spans rs within run_answers run_fits
+  cut_in : IsWithin 0 (cut_runs cs rs) (2 ^ 64 - 1)
+  cut_in = all_within 0 (2 ^ 64 - 1) cs rs within
 
-  module _ (written : Written) (fit : AllRowsFit now spans rs)
-      (is : written.bytes.items ≡ spelled_units (written_units now (with_runs now spans (begun now) rs))) where
+  pub small_units : All (λ b. length b < 2 ^ 32 - 1) (written_units now (with_runs now spans (begun now) (cut_runs cs rs)))
+  small_units = writes_small self now index offsets are_lines spans (cut_runs cs rs) cut_in cut_answers cut_fits
+
+  module _ (written : Written) (fit : AllRowsFit now spans (cut_runs cs rs))
+      (is : written.bytes.items ≡ spelled_units (written_units now (with_runs now spans (begun now) (cut_runs cs rs)))) where
     pub written_law : (i f : Elf) → self ≡ line_sections i → StandsLines i written f
-        → IsCarried (λ x y. x ≡ y) spans (λ p. option_map (λ x. x) (run_at rs p)) (line_answers f) × IsFree
-        (HasLineFault (line_sections f)) × AreKeptUnits i f
+        → IsCarriedFrom (λ x y. x ≡ y) spans (line_at self) (line_answers f) × IsFree (HasLineFault (line_sections f))
+        × AreKeptUnits i f
     written_law i f from stood =
-        let t = law self now index offsets are_lines spans rs within run_answers run_fits fit written.bytes.items is written refl i f from
-        stood in
-        let all : run_at rs ≡ (λ p. option_map (λ x. x) (run_at rs p)) = λ j p. sym (option_map_id (run_at rs p)) j in
+        let t = law self now index offsets are_lines spans (cut_runs cs rs) cut_in cut_answers cut_fits fit written.bytes.items is
+        written refl i f from stood in
+        let all : run_at (cut_runs cs rs) ≡ carried (line_at self) spans = λ j p. cut_answers p j in
         (subst (λ (want : ℕ → Option LineSaid). IsCarried (λ (x y : LineSaid). x ≡ y) spans want (line_answers f)) all t.0, t.1, t.2)
 
     pub written_made : (line : List ℕ) → line ≡ s.line → written.lists.items ≡ moved_units (places_in line) (places_in written.bytes.items)
         → LinesMade self written
     written_made line e lists =
         let old : line ≡ self.line = e ∙ sym (ap (λ (t : LineSections). t.line) view) in
-        made self now index offsets are_lines spans rs within run_answers run_fits fit written.bytes.items is written refl
+        made self now index offsets are_lines spans (cut_runs cs rs) cut_in cut_answers cut_fits fit written.bytes.items is written refl
         (lists ∙ ap (λ (l : List ℕ). moved_units (places_in l) (places_in written.bytes.items)) old)

@@ -15,7 +15,7 @@ use Rattle.addr_map.specs.Spans.{owner}
 use Rattle.answer_runs.specs.AnswerRuns.{IsWithin, run_at, carried}
 use Rattle.answer_runs.specs.declared.first_range.FirstRange.{FirstRange}
 use Rattle.answer_runs.specs.declared.run.Run.{Run}
-use Rattle.answer_runs.specs.Weights.{run_weight, weight_limit}
+use Rattle.answer_runs.specs.Weights.{weight_limit}
 use Rattle.table_core.specs.DebugUnits.{Walked, walked, units_from, unit_bytes, unit_length, is_whole_unit, is_other_version}
 use Rattle.table_core.specs.Sections.{section_limit}
 use Rattle.table_core.proofs.UnitsWalk.{whole_fits}
@@ -23,9 +23,8 @@ use Rattle.line_rewrite.specs.declared.sequence_index.SequenceIndex.{SequenceInd
 use Rattle.line_rewrite.specs.declared.unit.Unit as kept
 use Rattle.line_rewrite.specs.KeptUnits.{HasTables, told_unit}
 use Rattle.line_rewrite.specs.LineAnswers.{LineSaid, row_said}
-use Rattle.line_rewrite.specs.LineTable.{LineFits}
 use Rattle.line_rewrite.specs.SequenceIndex.{Numbered, numbered_at, numbered_rows}
-use Rattle.line_rewrite.specs.Tables.{LineSections, line_at, row_weight}
+use Rattle.line_rewrite.specs.Tables.{LineSections, line_at}
 use Rattle.line_rewrite.specs.UnitLists.{bytes_size, walked_size, kept_size, AreLines}
 use Rattle.line_rewrite.specs.Written.{moved}
 use Rattle.line_rewrite.specs.WrittenRuns.{placed_by, placed_at, placed}
@@ -38,6 +37,7 @@ use Rattle.line_rewrite.proofs.LineLookups.{all_at, says}
 use Rattle.line_rewrite.proofs.ProgramsBack.{piece_size, program_size}
 use Rattle.line_rewrite.proofs.RunPieces.{pieces, pieces_size, all_size, placed_size}
 use Rattle.line_rewrite.proofs.TableBack.{new_bytes}
+use Rattle.line_rewrite.proofs.TableReads.{weight_in}
 use Rattle.line_rewrite.proofs.UnitSizes.{unit_length as unit_bytes_length}
 use Rattle.line_rewrite.specs.Written.{written_coding}
 
@@ -118,6 +118,10 @@ pub record IsAnswered (s : LineSections) (us : List kept.Unit) (spans : List Spa
   pub at : placed us spans r ≡ Some (placed_by r a x)
   pub answer : r.answer ≡ numbered_said s.strings a x
 
+-- The section isn't too long, and the runs aren't too heavy, though they may be cut.
+abbrev pub IsWritable : LineSections → List (Run LineSaid) → Type 0
+IsWritable s rs = (length s.line ≤ section_limit) × (sum_by weight_in rs ≤ weight_limit + 2 ^ 28)
+
 module _ (s : LineSections) (us : List kept.Unit) (index : SequenceIndex) (offsets : FirstRange) (are : AreLines s us index offsets)
     (spans : List Span) where
   pub answered : (r : Run LineSaid) → carried (line_at s) spans r.start ≡ Some r.answer → IsAnswered s us spans r
@@ -151,18 +155,15 @@ module _ (s : LineSections) (us : List kept.Unit) (index : SequenceIndex) (offse
       let size : placed_size (placed us spans r) ≡ 27 + 73 * length (moved r.start rows) = ap placed_size is.at in
       omega (arith, size, count, moved_count r.start rows)
 
-  abbrev weight : Run LineSaid → ℕ
-  weight r = run_weight + row_weight * length r.answer.rows
-
   abbrev bytes : Run LineSaid → ℕ
   bytes r = placed_size (placed us spans r)
 
-  runs_bound : (rs : List (Run LineSaid)) → AllStart (carried (line_at s) spans) rs → 96 * sum_by bytes rs ≤ 81 * sum_by weight rs
+  runs_bound : (rs : List (Run LineSaid)) → AllStart (carried (line_at s) spans) rs → 96 * sum_by bytes rs ≤ 81 * sum_by weight_in rs
   runs_bound [] all = omega arith
   runs_bound (r ∷ rs) all =
       let one : bytes r ≤ 27 + 73 * length r.answer.rows = one_bound r (answered r all.0) in
-      let more : 96 * sum_by bytes rs ≤ 81 * sum_by weight rs = runs_bound rs all.1 in
-      omega (arith, one, more, sum_by-cons bytes r rs, sum_by-cons weight r rs)
+      let more : 96 * sum_by bytes rs ≤ 81 * sum_by weight_in rs = runs_bound rs all.1 in
+      omega (arith, one, more, sum_by-cons bytes r rs, sum_by-cons weight_in r rs)
 
   units_bound : (rs : List (Run LineSaid)) (k : ℕ) (more : List kept.Unit)
       → length (spelled_units (new_bytes s.strings us spans rs k more)) ≤ 2 * sum_by kept_size more + pieces_size us spans k
@@ -186,7 +187,7 @@ module _ (s : LineSections) (us : List kept.Unit) (index : SequenceIndex) (offse
       omega (arith, p, size, one, rest, sum_by-cons kept_size u more)
 
   module _ (rs : List (Run LineSaid)) (within : IsWithin 0 rs (2 ^ 64 - 1)) (answers : (p : ℕ) → run_at rs p ≡ carried (line_at s) spans p)
-      (fits : LineFits s spans rs) where
+      (fits : IsWritable s rs) where
     pub all_start : AllStart (carried (line_at s) spans) rs
     all_start = starts (carried (line_at s) spans) 0 (2 ^ 64 - 1) rs within (λ p h. answers p)
 
@@ -198,7 +199,7 @@ module _ (s : LineSections) (us : List kept.Unit) (index : SequenceIndex) (offse
         let e : sum_by kept_size us ≤ sum_by walked_size (walked 5 s.line) = are.units.sizes in
         let f : sum_by walked_size (walked 5 s.line) ≤ length s.line = walked_sizes (length s.line) 5 0 s.line in
         let g : length s.line ≤ section_limit = fits.0 in
-        let h : sum_by weight rs ≤ weight_limit = fits.1 in
+        let h : sum_by weight_in rs ≤ weight_limit + 2 ^ 28 = fits.1 in
         omega (arith, a, b, d, e, f, g, h)
 
 pub all_small : (n : ℕ) (bs : List (List ℕ)) → length (spelled_units bs) < n → All (λ b. length b < n) bs

@@ -6,7 +6,6 @@ use Rattle.std.proofs.lemmas.List.{at_drop_more}
 use Rattle.std.proofs.lemmas.List.Elements.{All-head, All-tail}
 use Rattle.byteorder.specs.Endian.{little_bytes}
 use Rattle.byteorder.specs.Numbers.{length-bytes_low_first}
-use Rattle.addr_map.specs.declared.span.Span.{Span}
 use Rattle.answer_runs.specs.AnswerRuns.{IsWithin}
 use Rattle.answer_runs.specs.declared.run.Run.{Run}
 use Rattle.line_rewrite.specs.declared.header.Header.{Header}
@@ -14,7 +13,7 @@ use Rattle.line_rewrite.specs.declared.unit.Unit as kept
 use Rattle.line_rewrite.specs.LineAnswers.{LineSaid}
 use Rattle.line_rewrite.specs.Written.{written_coding}
 use Rattle.line_rewrite.specs.WrittenPrograms.{Begun, nothing_begun, with_piece, closed}
-use Rattle.line_rewrite.specs.WrittenRuns.{Placed, placed, with_placed, with_runs, RowsFit, AllRowsFit, begun}
+use Rattle.line_rewrite.specs.WrittenRuns.{Placed, with_placed, begun}
 use Rattle.line_rewrite.specs.WrittenUnits.{flag_byte, operand_counts, header_fields, unit_bytes, written_units, spelled_unit}
 use Rattle.line_rewrite.specs.WrittenUnits.{spelled_units}
 
@@ -123,23 +122,7 @@ placed_count programs None = refl
 placed_count programs (Some q) =
     length-set programs q.unit (with_piece (written_coding q.stmt) (get_or programs q.unit nothing_begun) q.piece)
 
-module _ (units : List kept.Unit) (spans : List Span) (runs : List (Run LineSaid)) (i : ℕ) (r d : Run LineSaid) (h : i < length runs)
-    (is : r ≡ get_or runs i d) where
-  pub runs_next : (programs new want : List Begun) → new ≡ with_placed programs (placed units spans r)
-      → with_runs units spans programs (drop i runs) ≡ want
-      → with_runs units spans new (drop (i + 1) runs) ≡ want
-  unfolding with_runs
-  runs_next programs new want e inv =
-      ap (λ (l : List Begun). with_runs units spans l (drop (i + 1) runs))
-      (e ∙ ap (λ (x : Run LineSaid). with_placed programs (placed units spans x)) is)
-      ∙ sym (at_drop_more (with_runs units spans programs) runs i d h) ∙ inv
-
-  pub rows_next : (AllRowsFit units spans (drop i runs) → AllRowsFit units spans runs) → RowsFit (placed units spans r)
-      → AllRowsFit units spans (drop (i + 1) runs) → AllRowsFit units spans runs
-  rows_next all fit more =
-      all (subst (AllRowsFit units spans) (sym (at_drop_more (λ (l : List (Run LineSaid)). l) runs i d h))
-      (subst (λ (x : Run LineSaid). RowsFit (placed units spans x)) is fit, more))
-
+module _ (runs : List (Run LineSaid)) (i : ℕ) (r d : Run LineSaid) (h : i < length runs) (is : r ≡ get_or runs i d) where
   pub end_there : (lo hi : ℕ) → IsWithin lo runs hi → r.start + r.len ≤ hi
   end_there lo hi w = subst (λ (x : Run LineSaid). x.start + x.len ≤ hi) (sym is) (ends lo hi runs i h w)
     where
@@ -155,13 +138,3 @@ module _ (units : List kept.Unit) (spans : List Span) (runs : List (Run LineSaid
       ends lo hi [] i h w = absurd (omega arith)
       ends lo hi (x ∷ rs) zero h w = last (x.start + x.len) hi rs w.2
       ends lo hi (x ∷ rs) (suc i) h w = ends (x.start + x.len) hi rs i (omega arith) w.2
-
-pub no_runs : (units : List kept.Unit) (spans : List Span) (programs want : List Begun) (runs : List (Run LineSaid)) (i : ℕ)
-    → length runs ≤ i
-    → with_runs units spans programs (drop i runs) ≡ want → programs ≡ want
-unfolding with_runs
-no_runs units spans programs want runs i h inv = by (drop i runs) (omega (arith, length-drop i runs)) inv
-  where
-    by : (rs : List (Run LineSaid)) → length rs ≡ 0 → with_runs units spans programs rs ≡ want → programs ≡ want
-    by [] e f = f
-    by (r ∷ rs) e f = absurd (omega arith)

@@ -46,7 +46,8 @@ fn moved(alloc: Global, old: &[u8], new: &[u8]) -> Result<Vec<ListAt>, NoMemory>
 }
 
 /// Writes a new `.debug_line` with the same units in the same order. Each unit has sequences for the runs whose answers
-/// are rows of that unit. The lists of the result have the old and the new offset of each unit.
+/// are rows of that unit. A row begins at each of the addresses `cuts` that is inside of a run, too. The lists of the
+/// result have the old and the new offset of each unit.
 pub fn write_lines(
     alloc: Global,
     line: &[u8],
@@ -54,17 +55,20 @@ pub fn write_lines(
     sequences: &SequenceIndex,
     map: &AddrMap,
     runs: &[Run<LineAt>],
+    cuts: &[u64],
 ) -> Result<Written, NoMemory>
     requires index { IsIndexOf units.now sequences.now }
     requires within { IsWithin 0 runs.now (2 ^ 64 - 1) }
     requires small { All (λ b. length b < 2 ^ 32 - 1)
-        (written_units units.now (spec.with_runs units.now map.now (spec.begun units.now) runs.now)) }
+        (written_units units.now (spec.with_runs units.now map.now (spec.begun units.now)
+        (spec.cut_runs cuts.now runs.now))) }
     ensures written { IfOk result (λ w. w.bytes.items
-        ≡ spelled_units (written_units units.now (spec.with_runs units.now map.now (spec.begun units.now) runs.now))) }
-    ensures rows { IfOk result (λ w. spec.AllRowsFit units.now map.now runs.now) }
+        ≡ spelled_units (written_units units.now (spec.with_runs units.now map.now (spec.begun units.now)
+        (spec.cut_runs cuts.now runs.now)))) }
+    ensures rows { IfOk result (λ w. spec.AllRowsFit units.now map.now (spec.cut_runs cuts.now runs.now)) }
     ensures lists { IfOk result (λ w. w.lists.items ≡ moved_units (places_in line.now) (places_in w.bytes.items)) }
 {
-    let mut programs = programs_of(alloc, units, sequences, map, runs)?;
+    let mut programs = programs_of(alloc, units, sequences, map, runs, cuts)?;
     let mut bytes = Vec::new(alloc);
     put_units(&mut bytes, units, &mut programs)?;
     let lists = moved(alloc, line, &bytes)?;
