@@ -8,7 +8,7 @@ use Rattle.rv_reloc.specs.declared.refs.Refs.{Refs}
 use Rattle.rb_bytes.specs.Lists.{Gains}
 use Rattle.rb_bytes.proofs.Gains.{gains_both}
 use Rattle.rb_bytes.proofs.ListLemmas.{from_flat, in_flat}
-use Rattle.cfg_build.specs.declared.address_set.AddressSet.{AddressSet}
+use Rattle.code_starts.specs.declared.address_set.AddressSet.{AddressSet}
 use Rattle.cfg_build.specs.NamedAddresses.{code_of, AreEntered, IsMember}
 
 -- A branch or jump of a function has the target `a`.

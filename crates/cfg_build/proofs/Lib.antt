@@ -1,4 +1,3 @@
-mod AddressSets
 mod EdgeRows
 mod Entered
 pub mod layout

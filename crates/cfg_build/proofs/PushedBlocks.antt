@@ -12,7 +12,7 @@ use Rattle.rv_code.specs.declared.placed.Block.{Block}
 use Rattle.rv_code.specs.layout.Blocks.{inst_at, func_of, EndsBlock, Begins, at_start, named, after_end, IsBlockOf, IsBlock}
 use Rattle.rv_code.specs.layout.Blocks.{IsBefore, AreBlocks}
 use Rattle.rv_code.specs.layout.ProgramCode.{ProgramCode, IsTarget, IsHeld}
-use Rattle.cfg_build.specs.declared.address_set.AddressSet.{AddressSet}
+use Rattle.code_starts.specs.declared.address_set.AddressSet.{AddressSet}
 use Rattle.cfg_build.specs.NamedAddresses.{AreEntered, IsMember}
 use Rattle.cfg_build.specs.BlockLists.{EndsAt, EndsBefore, AreBlocksBefore}
 use Rattle.rb_bytes.proofs.Options.{some_and, of_some}

@@ -1,4 +1,3 @@
-pub mod AddressSets
 pub mod BlockLists
 pub mod EdgeLists
 pub mod NamedAddresses

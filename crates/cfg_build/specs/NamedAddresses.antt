@@ -3,8 +3,8 @@ use Rattle.std.specs.Prelude.{◌⊎◌, ◌↔◌, ℕ, List}
 use Rattle.rv_code.specs.declared.placed.Func.{Func}
 use Rattle.rv_code.specs.layout.ProgramCode.{ProgramCode, program_code, IsTarget, IsHeld}
 use Rattle.rv_reloc.specs.declared.refs.Refs.{Refs}
-use Rattle.cfg_build.specs.declared.address_set.AddressSet.{AddressSet}
-use Rattle.cfg_build.specs.AddressSets.{IsIn}
+use Rattle.code_starts.specs.declared.address_set.AddressSet.{AddressSet}
+use Rattle.code_starts.specs.AddressSets.{IsIn}
 
 -- Functions, references and the entry point of a file as one record.
 abbrev pub code_of : List Func → Refs → ℕ → ProgramCode

@@ -5,8 +5,8 @@ ghost use Rattle.rv_code.specs.layout.ProgramCode.{ProgramCode};
 ghost use Rattle.cfg_build.specs.NamedAddresses.{code_of, AreEntered};
 ghost use Rattle.cfg_build.specs.BlockLists.{AreBlocksBefore, EndsAt};
 
-use crate::address_set::AddressSet;
 use crate::named::entered_addresses;
+use code_starts::address_set::AddressSet;
 use rb_bytes::fault::NoMemory;
 use rv_code::flow::ends_block;
 use rv_code::{Block, Func};

@@ -1,7 +1,6 @@
 //! Basic blocks of functions, and the edges of their control-flow graphs.
 #![tactic(auto)]
 
-mod address_set;
 mod block_lists;
 mod edge_lists;
 mod ends;

@@ -4,7 +4,7 @@ ghost use Rattle.rv_code.specs.layout.Flow.{target_of};
 ghost use Rattle.rb_bytes.specs.Lists.{Gains};
 ghost use Rattle.cfg_build.specs.NamedAddresses.{code_of, AreEntered};
 
-use crate::address_set::AddressSet;
+use code_starts::address_set::AddressSet;
 use func_find::referred::{push_cells, push_roles};
 use rb_bytes::fault::NoMemory;
 use rb_bytes::lists::push_some;

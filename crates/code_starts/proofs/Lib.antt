@@ -1,3 +1,4 @@
+mod AddressSets
 pub mod Chosen
 mod Cuts
 mod Decoded

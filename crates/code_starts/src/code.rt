@@ -8,7 +8,7 @@ ghost use Rattle.code_starts.specs.LoadedMemory.{AreBytesFrom};
 ghost use Rattle.code_starts.specs.Parts.{AreCodeParts, IsInstBefore};
 
 use crate::loaded::bytes_from;
-use crate::parts::{Part, part_at};
+use crate::parts::Part;
 use crate::start_index::Starts;
 use elf_image::Elf;
 use rv_code::Inst;
@@ -104,6 +104,6 @@ pub fn full_at(elf: &Elf, starts: &Starts, parts: &[Part], address: u64) -> Opti
     if !starts.has(address) {
         return None;
     }
-    let part = part_at(parts, address)?;
+    let part = starts.part_at(parts, address)?;
     full_before(elf, part.end, address)
 }

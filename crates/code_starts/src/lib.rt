@@ -1,6 +1,7 @@
 //! The parts of a file's code, and the start addresses of their instructions.
 #![tactic(auto)]
 
+pub mod address_set;
 pub mod code;
 mod halves;
 pub mod instruction_starts;

@@ -76,6 +76,32 @@ pub fn part_at(parts: &[Part], address: u64) -> Option<Part>
     if address < part.end { Some(part) } else { None }
 }
 
+// The number of parts from a guess on that are looked at before all are searched.
+const WALK: usize = 16;
+
+/// The result of `part_at`. The search begins before the part with index `near`; a bad guess only costs time.
+pub fn part_near(parts: &[Part], near: usize, address: u64) -> Option<Part>
+    requires { ArePartsApart parts.now }
+    ensures holds { IfSome result (HoldsAddress parts.now address) }
+    ensures only { (p : Part) → HoldsAddress parts.now address p → result ≡ Some p }
+{
+    let end = parts.len().min(near.saturating_add(WALK));
+    for index in near.saturating_sub(1)..end {
+        let part = parts[index];
+        if holds(&part, address) {
+            return Some(part);
+        }
+    }
+    part_at(parts, address)
+}
+
+// Whether a part contains an address.
+fn holds(part: &Part, address: u64) -> bool
+    ensures { IsTrue result ↔ ((part.now.start ≤ address) × (address < part.now.end)) }
+{
+    part.start <= address && address < part.end
+}
+
 /// The number of parts that start at or below an address.
 pub fn count_up_to(parts: &[Part], address: u64) -> usize
     requires { ArePartsApart parts.now }

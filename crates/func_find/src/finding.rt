@@ -5,7 +5,7 @@ ghost use Rattle.elf_code.specs.Functions.{AreFunctions};
 ghost use Rattle.rb_bytes.specs.FirstFault.{IsFree, IsRefusalBy};
 ghost use Rattle.elf_code.specs.FunctionFaults.{HasFunctionFault};
 ghost use Rattle.elf_image.specs.faults.LowestPlace.{IsLowest};
-ghost use Rattle.code_starts.specs.Parts.{ArePartsApart};
+ghost use Rattle.code_starts.specs.Parts.{AreCodeParts, ArePartsApart};
 ghost use Rattle.rv_reloc.specs.Refs.{AreRefs};
 ghost use Rattle.func_find.specs.Targets.{IsBadStart};
 
@@ -38,28 +38,30 @@ pub fn functions(
     ensures free { OnOk result (IsFree (HasFunctionFault elf.now whole.now)) }
     ensures fault { IfErr result (IsRefusalBy (HasFunctionFault elf.now whole.now)) }
 {
-    let index = Starts::new(alloc, starts)?;
-    functions_by(alloc, elf, &index, refs, whole)
+    let parts = code_parts(alloc, elf)?;
+    let index = Starts::new(alloc, starts, &parts)?;
+    functions_by(alloc, elf, &index, &parts, refs, whole)
 }
 
-// The result of `functions`, from starts that are prepared for searches. Faults are searched in the order of their
-// numbers.
+// The result of `functions`, from starts that are prepared for searches, and the file's code parts. Faults are searched
+// in the order of their numbers.
 fn functions_by(
     alloc: Global,
     elf: &Elf,
     starts: &Starts,
+    parts: &[Part],
     refs: &Refs,
     whole: &[(u64, u64)],
 ) -> Result<Vec<Func>, Refusal>
     requires starts { AreStarts elf.now starts.now }
+    requires parts { AreCodeParts elf.now parts.now }
     requires refs { AreRefs elf.now whole.now refs.now }
     ensures functions { IfOk result (λ funcs. AreFunctions elf.now whole.now funcs.items) }
     ensures free { OnOk result (IsFree (HasFunctionFault elf.now whole.now)) }
     ensures fault { IfErr result (IsRefusalBy (HasFunctionFault elf.now whole.now)) }
 {
-    let parts = code_parts(alloc, elf)?;
-    let function_parts = kept_parts(alloc, elf, starts.list(), &parts, refs)?;
-    let whole_parts = whole_parts(alloc, elf, starts.list(), &parts, whole)?;
+    let function_parts = kept_parts(alloc, elf, starts.list(), parts, refs)?;
+    let whole_parts = whole_parts(alloc, elf, starts.list(), parts, whole)?;
     let kept = function_parts.as_slice();
     if let Some(place) = lowest_bad_start(starts, kept, elf.entry) {
         return Err(Refusal::Fault(Fault::at(FaultKind::BadEntry, place)));

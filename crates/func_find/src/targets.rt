@@ -6,7 +6,7 @@ ghost use Rattle.rv_reloc.specs.Places.{IsPlaceOf};
 ghost use Rattle.func_find.specs.Targets.{CallsInside, HasMisled, IsCodeIn, InSomePart, IsInsideIn, IsMisled};
 ghost use Rattle.func_find.specs.Targets.{JumpsNowhere};
 
-use code_starts::parts::{Part, part_at};
+use code_starts::parts::Part;
 use code_starts::start_index::Starts;
 use elf_image::lowest::{lower, place_if};
 use rv_code::flow::target;
@@ -18,15 +18,15 @@ pub fn is_inst_start(starts: &Starts, parts: &[Part], address: u64) -> bool
     requires parts { ArePartsApart parts.now }
     ensures { IsTrue result ↔ IsCodeIn starts.now parts.now address }
 {
-    starts.has(address) && is_held(parts, address)
+    starts.has(address) && is_held(starts, parts, address)
 }
 
-// Whether one of the parts contains an address.
-fn is_held(parts: &[Part], address: u64) -> bool
+// Whether one of the parts contains an address. `starts` only serve the search.
+fn is_held(starts: &Starts, parts: &[Part], address: u64) -> bool
     requires { ArePartsApart parts.now }
     ensures { IsTrue result ↔ InSomePart parts.now address }
 {
-    part_at(parts, address).is_some()
+    starts.part_at(parts, address).is_some()
 }
 
 // Whether an address is in one of the parts and isn't the start of an instruction.
@@ -35,7 +35,7 @@ fn is_inside(starts: &Starts, parts: &[Part], address: u64) -> bool
     requires parts { ArePartsApart parts.now }
     ensures { IsTrue result ↔ IsInsideIn starts.now parts.now address }
 {
-    is_held(parts, address) && !starts.has(address)
+    is_held(starts, parts, address) && !starts.has(address)
 }
 
 /// The lowest address of an instruction whose target isn't an instruction: the fault `BadTarget`. `parts` are the parts

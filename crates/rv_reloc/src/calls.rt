@@ -17,7 +17,7 @@ use crate::records::Record;
 use crate::targets::{address_of, pair_target};
 use crate::types::is_call_pair;
 use code_starts::code::full_at;
-use code_starts::parts::{Part, part_at};
+use code_starts::parts::Part;
 use code_starts::start_index::Starts;
 use elf_image::Elf;
 
@@ -102,7 +102,7 @@ fn jump_after(elf: &Elf, starts: &Starts, parts: &[Part], address: u64) -> Optio
         result ≡ Some j }
     ensures room { OnSome result (address + 4 < 2 ^ 64) }
 {
-    let part = part_at(parts, address)?;
+    let part = starts.part_at(parts, address)?;
     if part.end - address <= 4 {
         return None;
     }

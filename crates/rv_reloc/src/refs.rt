@@ -50,7 +50,7 @@ pub fn references(
 {
     let parts = code_parts(alloc, elf)?;
     let records = records(alloc, elf)?;
-    let index = Starts::new(alloc, starts)?;
+    let index = Starts::new(alloc, starts, &parts)?;
     let lows = lows(alloc, elf, &index, &parts, &records)?;
     references_by(alloc, elf, &index, whole, &parts, &records, &lows)
 }

@@ -93,7 +93,7 @@ returns-in-Some-lowest_misled-clause-fault c =
     let (no_bad_inst, no_bare) = no_bad elf whole wholes kept funcs functions c.in_ok-funcs.ensures.made in
     let misled =
     subst (λ (fs : List Func). IsLowest (HasMisled starts kept fs)
-    (Some place)) c.deref-4.ensures.value c.in-Some-lowest_misled.ensures in
+    (Some place)) c.deref-2.ensures.value c.in-Some-lowest_misled.ensures in
     let lowest =
     IsLowest-target elf whole starts c.args.refs.now.roles.items wholes kept funcs
     (Some place) c.requires.starts c.requires.refs.roles functions c.in_ok-funcs.ensures.made misled in
@@ -128,7 +128,7 @@ returns-clause-free c =
     let (no_bad_inst, no_bare) = no_bad elf whole wholes kept funcs functions c.in_ok-funcs.ensures.made in
     let misled =
     subst
-    (λ (fs : List Func). IsLowest (HasMisled starts kept fs) None) c.deref-4.ensures.value c.in-None.ensures in
+    (λ (fs : List Func). IsLowest (HasMisled starts kept fs) None) c.deref-2.ensures.value c.in-None.ensures in
     let no_target =
     lacks (HasFunctionFault elf whole BadTarget) None refl
     (IsLowest-target elf whole starts c.args.refs.now.roles.items wholes kept funcs None c.requires.starts c.requires.refs.roles

@@ -1,7 +1,7 @@
 // Sets of addresses, most of which are near each other.
 ghost use Rattle.std.specs.Prelude.{◌≡◌, ◌⊎◌, ◌↔◌, ◌+◌, ◌-◌, ◌<◌, ◌≤◌, ℕ, AllPairs, Contains, IsTrue};
 ghost use Rattle.std.specs.Prelude.{IfNone, IfOk, IfSome, OnOk};
-ghost use Rattle.cfg_build.specs.AddressSets.{IsIn};
+ghost use Rattle.code_starts.specs.AddressSets.{IsIn};
 
 use elf_image::function_bounds::make_ascending;
 use rb_bytes::fault::NoMemory;
@@ -79,10 +79,11 @@ fn place_of(low: u64, count: usize, address: u64) -> Option<usize>
     Some((address - low) as usize)
 }
 
+// Whether an address is in an ascending list. No place in the list is nearer than another.
 fn is_listed(addresses: &[u64], address: u64) -> bool
     requires { AllPairs (λ a b. a < b) addresses.now }
     ensures { IsTrue result ↔ Contains addresses.now address }
 {
-    let mut near = 0;
+    let mut near = usize::MAX;
     is_member_from(addresses, &mut near, address)
 }

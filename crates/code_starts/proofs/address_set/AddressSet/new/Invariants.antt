@@ -1,7 +1,7 @@
 use Rattle.std.proofs.Common.{ℕ, take}
 use Rattle.std.specs.Prelude.{◌↔◌, Contains}
-use Rattle.cfg_build.specs.AddressSets.{IsIn}
-use Rattle.cfg_build.proofs.address_set.AddressSet.new.Given as goal
+use Rattle.code_starts.specs.AddressSets.{IsIn}
+use Rattle.code_starts.proofs.address_set.AddressSet.new.Given as goal
 
 abbrev pub invariant-loop-address : goal.invariant-loop-address
 invariant-loop-address l = (a : ℕ) →

@@ -1,7 +1,7 @@
 use Rattle.std.proofs.Common.{◌<◌, ◌∙◌, sym, arith, false, length}
 use Rattle.std.proofs.lemmas.List.{get_or_default}
-use Rattle.cfg_build.proofs.AddressSets.{in-list, in-mark}
-use Rattle.cfg_build.proofs.address_set.AddressSet.has.Goals as goal
+use Rattle.code_starts.proofs.AddressSets.{in-list, in-mark}
+use Rattle.code_starts.proofs.address_set.AddressSet.has.Goals as goal
 
 pub returns-in-Some : goal.returns-in-Some
 returns-in-Some c =

@@ -2,8 +2,8 @@ use Rattle.std.proofs.Common.{◌≡◌, sym, subst, arith, ℕ, List, take}
 use Rattle.std.specs.Prelude.{Contains}
 use Rattle.std.proofs.lemmas.List.Kept.{AllPairs-from_increasing}
 use Rattle.std.proofs.lemmas.List.{take_all}
-use Rattle.cfg_build.proofs.AddressSets.{in-next, in-nothing, in-same}
-use Rattle.cfg_build.proofs.address_set.AddressSet.new.Goals as goal
+use Rattle.code_starts.proofs.AddressSets.{in-next, in-nothing, in-same}
+use Rattle.code_starts.proofs.address_set.AddressSet.new.Goals as goal
 
 pub loop-address-init : goal.loop-address-init
 loop-address-init c =

@@ -1,6 +1,6 @@
 use Rattle.std.proofs.Common.{arith}
-use Rattle.cfg_build.proofs.AddressSets.{in-listed, in-marked}
-use Rattle.cfg_build.proofs.address_set.put.Goals as goal
+use Rattle.code_starts.proofs.AddressSets.{in-listed, in-marked}
+use Rattle.code_starts.proofs.address_set.put.Goals as goal
 
 pub returns-in-Some : goal.returns-in-Some
 returns-in-Some c =

@@ -7,7 +7,7 @@ use Rattle.std.proofs.lemmas.Bool.{cases_eq, cases_lt}
 use Rattle.std.proofs.lemmas.List.{get_or-replicate, get_or_past, length-replicate, take_more}
 use Rattle.rb_bytes.specs.Lists.{Gains}
 use Rattle.rb_bytes.proofs.Gains.{gains_one}
-use Rattle.cfg_build.specs.AddressSets.{IsIn, IsUnmarked}
+use Rattle.code_starts.specs.AddressSets.{IsIn, IsUnmarked}
 
 -- A set without members.
 pub in-nothing : (low width : ℕ) (marks : List Bool) (others : List ℕ) → marks ≡ replicate width false → others ≡ [] → (a : ℕ) →
