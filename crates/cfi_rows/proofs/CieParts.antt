@@ -4,10 +4,11 @@ use Rattle.std.specs.Prelude.{IsOkAnd, flat_map, sum_by, length}
 use Rattle.rb_bytes.proofs.Results.{ok_when}
 use Rattle.answer_runs.specs.Weights.{distinct}
 use Rattle.table_core.specs.ReadSteps.{and_so}
-use Rattle.cfi_rows.specs.declared.cie.Cie.{Cie as Kept}
+use Rattle.cfi_rows.specs.declared.kept_cie.Cie.{Cie as Kept}
 use Rattle.cfi_rows.specs.declared.instruction.Instruction.{Instruction}
 use Rattle.cfi_rows.specs.declared.instruction.Malformed.TheVariants.{Entry}
 use Rattle.cfi_rows.specs.FrameInstructions.{instructions_at}
+use Rattle.cfi_rows.specs.FrameRows.{known_after, begins, nothing_known}
 use Rattle.cfi_rows.specs.Heads.{head_of}
 use Rattle.cfi_rows.specs.EntryCounts.{registers_set, bytes_in}
 use Rattle.cfi_rows.specs.Outlines.{frame_after}
@@ -27,9 +28,13 @@ pub with-list : (end : ℕ) (body rest : List ℕ) (h : Head) (is : List Instruc
     instructions_at (head_context end h) rest ≡ Ok is → cie_at end body ≡ cie_after h is
 with-list end body rest h is e f = head-only end body rest h e ∙ ap (λ r. and_so r (cie_after h)) f
 
+pub no-known : (end : ℕ) (body rest : List ℕ) (h : Head) (is : List Instruction) → head_at end body ≡ Ok (h, rest) →
+    instructions_at (head_context end h) rest ≡ Ok is → known_after is (Some (begins 0 nothing_known)) ≡ None → cie_at end body ≡ Err Entry
+no-known end body rest h is e f n = with-list end body rest h is e f ∙ ap (λ o. and_so (sound_if o) (cie_made h is)) n
+
 pub no-frame : (end : ℕ) (body rest : List ℕ) (h : Head) (is : List Instruction) → head_at end body ≡ Ok (h, rest) →
     instructions_at (head_context end h) rest ≡ Ok is → frame_after is ≡ None → cie_at end body ≡ Err Entry
-no-frame end body rest h is e f n = with-list end body rest h is e f ∙ ap (λ o. and_so (sound_if o) (cie_made h is)) (unknown is n)
+no-frame end body rest h is e f n = no-known end body rest h is e f (unknown is n)
 
 by-known : (end : ℕ) (body rest : List ℕ) (k : Kept) (is : List Instruction) → head_at end body ≡ Ok (head_kept k, rest) →
     instructions_at (head_context end (head_kept k)) rest ≡ Ok is → KnownFrame is k.frame →

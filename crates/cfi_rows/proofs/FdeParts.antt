@@ -8,7 +8,7 @@ use Rattle.rb_bytes.specs.Readers.{and_then}
 use Rattle.rb_bytes.proofs.Results.{ok_when}
 use Rattle.answer_runs.specs.Weights.{distinct}
 use Rattle.table_core.specs.ReadSteps.{and_so}
-use Rattle.cfi_rows.specs.declared.cie.Cie.{Cie as Kept}
+use Rattle.cfi_rows.specs.declared.kept_cie.Cie.{Cie as Kept}
 use Rattle.cfi_rows.specs.declared.registers.Registers.{Registers}
 use Rattle.cfi_rows.specs.declared.fde.FdeHead.{FdeHead}
 use Rattle.cfi_rows.specs.declared.frame_table.Fde.{Fde as ReadFde}
@@ -61,6 +61,9 @@ split cie end e = by-start cie end e.place (pointer_at cie.augmentation.encoding
 with-head : (cie : Cie) (end : ℕ) (e : RawEntry) (h : FdeHead) (rest : List ℕ) → fde_head_at cie.augmentation end e.body ≡ Ok (h, rest) →
     fde_at cie end e ≡ and_so (instructions_at (fde_context cie end) rest) (fde_after cie e.place h.start h.size h.table)
 with-head cie end e h rest f = split cie end e ∙ ap (λ r. and_then r (from_head cie end e.place)) f
+
+pub no-head : (cie : Cie) (end : ℕ) (e : RawEntry) → fde_head_at cie.augmentation end e.body ≡ Err Entry → fde_at cie end e ≡ Err Entry
+no-head cie end e f = split cie end e ∙ ap (λ r. and_then r (from_head cie end e.place)) f
 
 pub no-instructions : (cie : Cie) (end : ℕ) (e : RawEntry) (h : FdeHead) (rest : List ℕ) →
     fde_head_at cie.augmentation end e.body ≡ Ok (h, rest) →

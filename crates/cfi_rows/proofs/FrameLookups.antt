@@ -1,13 +1,17 @@
 -- The rows of all entries of a table, in the order of its list.
 use Rattle.std.proofs.Common.{◌≡◌, ◌∙◌, ◌+◌, ◌<◌, ◌≤◌, ◌++◌, ℕ, zero, suc, Bool, List, [], ◌∷◌, map, take, length, get_or, Option, Some}
 use Rattle.std.proofs.Common.{None, option_map, Result, Ok, Err, refl, sym, ap, subst, arith}
-use Rattle.std.specs.Prelude.{slice_get, IfOk, IsOkAnd}
+use Rattle.std.specs.Prelude.{slice_get, IfOk, IfErr, IsOkAnd}
 use Rattle.std.proofs.lemmas.List.{length-map, take_all}
 use Rattle.std.proofs.lemmas.Option.{none-some, same_Some, slice_get-map, slice_get-get_or}
 use Rattle.table_core.specs.ReadSteps.{and_so}
 use Rattle.table_core.specs.Sections.{Held}
 use Rattle.cfi_rows.specs.declared.frame_table.Fde.{Fde as ReadFde}
 use Rattle.cfi_rows.specs.declared.instruction.Malformed.{Malformed}
+use Rattle.cfi_rows.specs.declared.instruction.Malformed.TheVariants.{Entry}
+use Rattle.cfi_rows.specs.declared.failed.Failed.{Failed}
+use Rattle.cfi_rows.specs.declared.failed.Failed.TheVariants as failed
+use Rattle.cfi_rows.specs.Reads.{Fails}
 use Rattle.cfi_rows.specs.Entries.{Cie, Fde, RawEntry, cie_place, end_of, fde_at, sound_if}
 use Rattle.cfi_rows.specs.declared.cie_program.CieProgram.{CieProgram}
 use Rattle.cfi_rows.specs.declared.program.Program.{Program}
@@ -83,3 +87,57 @@ program-at (Ok p) debug t place A e k end body s g n b h = λ a.
           → IfOk (and_so q (λ cie. fde_at cie (end_of t.address e) e)) (IsProgram p)
       by (Err x) i = tt
       by (Ok c) i = subst (λ (m : ℕ). IfOk (fde_at c m e) (IsProgram p)) n (h c e i b)
+
+-- What fails is no FDE of the table.
+
+abbrev pub IsNone : Result Fde Malformed → Type 0
+IsNone r = IfOk r (λ _. ⊥)
+
+standing : (debug : Bool) → Held → Option RawEntry → Result Fde Malformed
+standing debug t o =
+    and_so (sound_if o) (λ e. and_so (cie_standing debug t (cie_place debug e)) (λ cie. fde_at cie (end_of t.address e) e))
+
+pub no-entry : (debug : Bool) (t : Held) (place : ℕ) → entry_standing debug t.bytes place ≡ None → IsNone (fde_standing debug t place)
+unfolding standing
+no-entry debug t place s = subst (λ (o : Option RawEntry). IsNone (standing debug t o)) (sym s) tt
+
+pub no-cie : (debug : Bool) (t : Held) (place : ℕ) (e : RawEntry) → entry_standing debug t.bytes place ≡ Some e →
+    cie_standing debug t (cie_place debug e) ≡ Err Entry → IsNone (fde_standing debug t place)
+unfolding standing
+no-cie debug t place e s n =
+    subst (λ (o : Option RawEntry). IsNone (standing debug t o)) (sym s)
+    (subst (λ (q : Result Cie Malformed). IsNone (and_so q (λ cie. fde_at cie (end_of t.address e) e))) (sym n) tt)
+
+pub no-program : (r : Result Program Failed) (debug : Bool) (t : Held) (place : ℕ) (A : Type 0) (e : RawEntry) (k : CieProgram) (end : ℕ)
+    (body : List ℕ) → entry_standing debug t.bytes place ≡ Some e →
+    (A → IsOkAnd (cie_standing debug t (cie_place debug e)) (IsCieProgram k)) → end ≡ end_of t.address e → e.body ≡ body →
+    ((c : Cie) (x : RawEntry) → IsCieProgram k c → x.body ≡ body → IfErr r (λ z. Fails z (fde_at c end x ≡ Err Entry))) →
+    IfErr r (λ z. Fails z (A → IsNone (fde_standing debug t place)))
+unfolding standing
+no-program (Ok p) debug t place A e k end body s g n b h = tt
+no-program (Err failed.Memory) debug t place A e k end body s g n b h = tt
+no-program (Err failed.Malformed) debug t place A e k end body s g n b h = λ a.
+    subst (λ (o : Option RawEntry). IsNone (standing debug t o)) (sym s) (by (cie_standing debug t (cie_place debug e)) (g a)) where
+      by : (q : Result Cie Malformed) → IsOkAnd q (IsCieProgram k) → IsNone (and_so q (λ cie. fde_at cie (end_of t.address e) e))
+      by (Err x) i = tt
+      by (Ok c) i = subst IsNone (sym (ap (λ (m : ℕ). fde_at c m e) (sym n) ∙ h c e i b)) tt
+
+pub no-rows : (A : Type 0) (r : Result (List PlacedRow) Failed) (q : Result Fde Malformed) (p : Program) →
+    IfErr r (λ e. Fails e (program_rows p ≡ None)) → (A → IfOk q (IsProgram p)) → IfErr r (λ e. Fails e (A → IsNone q))
+no-rows A (Ok rows) q p h g = tt
+no-rows A (Err failed.Memory) q p h g = tt
+no-rows A (Err failed.Malformed) q p h g = λ a. by q (g a) where
+  by : (q : Result Fde Malformed) → IfOk q (IsProgram p) → IsNone q
+  by (Err e) k = tt
+  by (Ok f) k = none-some f.rows (sym h ∙ k.rows)
+
+-- one of the list is found
+pub is-found : (debug : Bool) (t : Held) (fs : List Fde) (list : List ReadFde) (k : ℕ) (d : ReadFde) → k < length list →
+    list ≡ map fde_of fs →
+    ((i : ℕ) (f : Fde) → slice_get fs i ≡ Some f → fde_standing debug t f.place ≡ Ok f) →
+    IsNone (fde_standing debug t (get_or list k d).place) → ⊥
+is-found debug t fs list k d l e stands n = by (slice_get fs k) refl where
+  by : (f : Option Fde) → slice_get fs k ≡ f → ⊥
+  by None f = none-some (get_or list k d) (sym (ap (option_map fde_of) f) ∙ sym (slice_get-map fde_of fs k)
+      ∙ ap (λ (xs : List ReadFde). slice_get xs k) (sym e) ∙ slice_get-get_or list k d l)
+  by (Some f) s = subst IsNone (ap (fde_standing debug t) (place-at fs list k f d (sym e) s) ∙ stands k f s) n

@@ -1,5 +1,5 @@
 -- Instructions that are read one after another.
-use Rattle.std.proofs.Common.{◌≡◌, ◌∙◌, ◌+◌, ◌-◌, ◌<◌, ◌≤◌, ◌++◌, ℕ, suc, List, [], ◌∷◌, Result, Ok, Err, refl, sym, ap, arith, length}
+use Rattle.std.proofs.Common.{◌≡◌, ◌∙◌, ◌+◌, ◌-◌, ◌^◌, ◌<◌, ◌≤◌, ◌++◌, ℕ, suc, List, [], ◌∷◌, Result, Ok, Err, refl, sym, ap, arith, length, min}
 use Rattle.std.proofs.Common.{append_assoc}
 use Rattle.std.proofs.lemmas.List.{append-nil}
 use Rattle.rb_bytes.specs.Readers.{and_then}
@@ -8,6 +8,9 @@ use Rattle.table_core.specs.ReadSteps.{with_head}
 use Rattle.cfi_rows.specs.declared.instruction.Malformed.{Malformed}
 use Rattle.cfi_rows.specs.declared.instruction.Malformed.TheVariants.{Entry}
 use Rattle.cfi_rows.specs.declared.instruction.Instruction.{Instruction}
+use Rattle.std.specs.Prelude.{sum_by}
+use Rattle.std.proofs.lemmas.List.Sums.{sum_by-append}
+use Rattle.cfi_rows.specs.EntryCounts.{bytes_in}
 use Rattle.cfi_rows.specs.FrameInstructions.{Context, instruction_at, instructions_in}
 
 -- a list that was read, and then the rest
@@ -60,3 +63,16 @@ pub runs_out : (c : Context) (n count : ℕ) (left : List ℕ) (xs : List Instru
     after xs (instructions_in c (n - count) left) ≡ Err Entry
 runs_out c n count left xs h l = let z : n - count ≡ 0 = omega arith in
     ap (λ m. after xs (instructions_in c m left)) z ∙ ap (after xs) (in-out c left l)
+
+-- bytes of expressions, with those of one more instruction
+pub one-more : (xs ys : List Instruction) (i : Instruction) (left rest all : ℕ) → ys ≡ xs ++ i ∷ [] →
+    sum_by bytes_in xs + left ≤ all → bytes_in i + rest ≤ left → sum_by bytes_in ys + rest ≤ all
+one-more xs ys i left rest all e h l =
+    let s : sum_by bytes_in ys ≡ sum_by bytes_in xs + sum_by bytes_in (i ∷ []) = ap (sum_by bytes_in) e ∙ sum_by-append bytes_in xs (i ∷ []) in
+    omega arith
+
+-- the bytes of expressions, if they come from few bytes
+pub exact-bytes : (is js : List Instruction) (n m : ℕ) → js ≡ is → sum_by bytes_in is ≤ m → m < 2 ^ 63 →
+    n ≡ min (sum_by bytes_in js) (2 ^ 64 - 1) → (sum_by bytes_in js ≡ n) × (n < 2 ^ 63)
+exact-bytes is js n m e l s h =
+    let f : sum_by bytes_in js ≡ sum_by bytes_in is = ap (sum_by bytes_in) e in (omega (arith, f, l, s, h), omega (arith, f, l, s, h))

@@ -1,9 +1,9 @@
 -- An entry that a walk of a table found is at its place, and is found there again.
-use Rattle.std.proofs.Common.{◌≡◌, ◌∙◌, ◌+◌, ◌-◌, ◌==◌, ◌&&◌, ◌^◌, ℕ, zero, suc, Bool, true, false, cond, not, List, [], ◌∷◌, Result, Ok}
+use Rattle.std.proofs.Common.{◌≡◌, ◌∙◌, ◌+◌, ◌-◌, ◌≤◌, ◌==◌, ◌&&◌, ◌^◌, ℕ, zero, suc, Bool, true, false, cond, not, List, [], ◌∷◌, Result, Ok}
 use Rattle.std.proofs.Common.{Err, Option, Some, None, refl, sym, ap, subst, arith, take, drop, length, map, get_or, option_map}
 use Rattle.std.proofs.lemmas.Bool.Decides.{nat_tests}
 use Rattle.std.proofs.lemmas.Grind.{common_steps}
-use Rattle.std.proofs.lemmas.List.{drop-drop}
+use Rattle.std.proofs.lemmas.List.{drop-drop, drop_all}
 use Rattle.std.proofs.lemmas.Option.{same_Some, slice_get-map, get_or_from_slice_get}
 use Rattle.std.specs.Prelude.{nat_lt, slice_get}
 use Rattle.std.specs.List.{find}
@@ -13,6 +13,9 @@ use Rattle.table_core.specs.ReadSteps.{and_so}
 use Rattle.table_core.specs.Sections.{Held}
 use Rattle.cfi_rows.specs.declared.instruction.Malformed.{Malformed}
 use Rattle.cfi_rows.specs.declared.instruction.Malformed.TheVariants.{Entry}
+use Rattle.cfi_rows.specs.declared.raw_entry.NoEntry.{NoEntry}
+use Rattle.cfi_rows.specs.declared.raw_entry.NoEntry.TheVariants as none
+use Rattle.cfi_rows.specs.FrontEnds.{front_without}
 use Rattle.cfi_rows.specs.FrameInstructions.{Read, instructions_at, pointer_at, stored_at}
 use Rattle.cfi_rows.specs.FrameRows.{rows, begins}
 use Rattle.cfi_rows.specs.Entries.{Cie, Fde, Frames, RawEntry, Front, Ends, Breaks, Stands, front_of, entry_of, walk, onward}
@@ -23,6 +26,15 @@ use Rattle.cfi_rows.specs.declared.frame_table.Fde.{Fde as ReadFde}
 use Rattle.cfi_rows.specs.ReadEntries.{fde_of}
 use Rattle.cfi_rows.specs.FramePrograms.{entry_in, entry_standing, cie_standing, fde_standing}
 use Rattle.cfi_rows.specs.KeptTables.{fde_in}
+
+-- no entry is past the end of a table, nor at bytes that are none
+pub past_end : (debug : Bool) (table : List ℕ) (place : ℕ) → length table ≤ place → entry_standing debug table place ≡ None
+past_end debug table place l = ap (λ xs. entry_in (front_of debug place xs)) (drop_all place table l)
+
+pub without : (debug : Bool) (table : List ℕ) (place : ℕ) (left : List ℕ) (n : NoEntry) → left ≡ drop place table →
+    front_of debug place left ≡ front_without n → entry_standing debug table place ≡ None
+without debug table place left none.Ends p e = ap (λ xs. entry_in (front_of debug place xs)) (sym p) ∙ ap entry_in e
+without debug table place left none.Breaks p e = ap (λ xs. entry_in (front_of debug place xs)) (sym p) ∙ ap entry_in e
 
 -- each of some entries is at its place
 abbrev pub AllStand : (debug : Bool) → List ℕ → List RawEntry → Type 0

@@ -4,7 +4,7 @@ use Rattle.std.proofs.Common.{arith, append_assoc, drop, get_or, length, ◌-◌
 use Rattle.std.proofs.lemmas.List.{drop_more}
 use Rattle.std.specs.Prelude.{IsOkAnd, map}
 use Rattle.table_core.specs.ReadSteps.{and_so}
-use Rattle.cfi_rows.specs.declared.cie.Cie.{Cie as Kept}
+use Rattle.cfi_rows.specs.declared.kept_cie.Cie.{Cie as Kept}
 use Rattle.cfi_rows.specs.declared.frame_table.Fde.{Fde as ReadFde}
 use Rattle.cfi_rows.specs.declared.instruction.Malformed.{Malformed}
 use Rattle.cfi_rows.specs.ReadEntries.{fde_of}

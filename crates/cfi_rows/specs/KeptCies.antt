@@ -1,7 +1,7 @@
 -- A CIE as the code keeps it: what its instructions say of registers is only counted.
 use Rattle.std.specs.Prelude.{◌≡◌, List, length, flat_map, sum_by}
 use Rattle.answer_runs.specs.Weights.{distinct}
-use Rattle.cfi_rows.specs.declared.cie.Cie.{Cie as Kept}
+use Rattle.cfi_rows.specs.declared.kept_cie.Cie.{Cie as Kept}
 use Rattle.cfi_rows.specs.declared.instruction.Instruction.{Instruction}
 use Rattle.cfi_rows.specs.FrameRows.{Known}
 use Rattle.cfi_rows.specs.Augmentations.{augmentation_of}

@@ -3,7 +3,7 @@ use Rattle.std.specs.Prelude.{ℕ, ◌+◌, ◌++◌, Bool, List, map, Option, S
 use Rattle.std.specs.Ordering.{nat_cmp}
 use Rattle.std.specs.BTreeMap.{BTreeMap, get}
 use Rattle.table_core.specs.ReadSteps.{and_so}
-use Rattle.cfi_rows.specs.declared.cie.Cie.{Cie as Kept}
+use Rattle.cfi_rows.specs.declared.kept_cie.Cie.{Cie as Kept}
 use Rattle.cfi_rows.specs.declared.frame_table.Fde.{Fde as ReadFde}
 use Rattle.cfi_rows.specs.declared.listed.Listed.{Listed}
 use Rattle.cfi_rows.specs.declared.instruction.Malformed.{Malformed}

@@ -1,5 +1,5 @@
 // What the augmentation of a CIE says. LSB, "The Common Information Entry Format".
-ghost use Rattle.std.specs.Prelude.{◌≡◌, ◌-◌, ◌<◌, ◌^◌, ℕ, List, length, IfOk, IfErr, OnOk, Ok, Err, Some, None};
+ghost use Rattle.std.specs.Prelude.{◌≡◌, ◌-◌, ◌<◌, ◌≤◌, ◌^◌, ℕ, List, length, IfOk, IfErr, OnOk, Ok, Err, Some, None};
 ghost use Rattle.std.specs.Prelude.{MatchOption};
 ghost use Rattle.cfi_rows.specs.FrameInstructions.{block_at, stored_at, pointed};
 ghost use Rattle.cfi_rows.specs.Entries as spec;
@@ -116,6 +116,7 @@ impl Augmentation {
             ≡ Ok (t, cursor.new.left)) }
         ensures err { IfErr result (λ e. Fails e (spec.table_at (augmentation_of self.now) end cursor.old.left
             ≡ Err Entry)) }
+        ensures on { OnOk result (length cursor.new.left ≤ length cursor.old.left) }
     {
         if !self.has_data {
             return Ok(0);
@@ -154,6 +155,7 @@ fn table_encoding_of(byte: u8) -> Result<Option<Encoding>, Failed>
 fn data<'a>(cursor: &mut Cursor<'a>) -> Result<&'a [u8], Failed>
     ensures ok { IfOk result (λ d. block_at cursor.old.left ≡ Ok (d.now, cursor.new.left)) }
     ensures err { IfErr result (λ e. Fails e (block_at cursor.old.left ≡ Err Entry)) }
+    ensures on { OnOk result (length cursor.new.left ≤ length cursor.old.left) }
 {
     let length = unsigned(cursor)?;
     Ok(cursor.take(length as usize)?)
@@ -200,6 +202,7 @@ pub(crate) fn read_augmentation(
     ensures ok { IfOk result (λ a. spec.augmentation_at end text.now cursor.old.left
         ≡ Ok (augmentation_of a, cursor.new.left)) }
     ensures err { IfErr result (λ e. Fails e (spec.augmentation_at end text.now cursor.old.left ≡ Err Entry)) }
+    ensures on { OnOk result (length cursor.new.left ≤ length cursor.old.left) }
 {
     let Some((first, letters)) = text.split_first() else {
         return Ok(Augmentation::plain(false));

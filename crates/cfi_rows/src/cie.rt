@@ -1,5 +1,5 @@
 // Common information entries. LSB, "The Common Information Entry Format"; DWARF 5, section 6.4.1.
-ghost use Rattle.std.specs.Prelude.{◌≡◌, ◌≤◌, ◌<◌, ◌^◌, ℕ, List, IfOk, IfErr, IsOkAnd, Ok, Err};
+ghost use Rattle.std.specs.Prelude.{◌≡◌, ◌≤◌, ◌<◌, ◌^◌, ℕ, List, length, IfOk, IfErr, OnOk, IsOkAnd, Ok, Err};
 ghost use Rattle.rb_bytes.specs.Readers.{number_read};
 ghost use Rattle.cfi_rows.specs.FrameInstructions.{whole};
 ghost use Rattle.cfi_rows.specs.Entries as spec;
@@ -13,9 +13,9 @@ use crate::counts::{expression_bytes, new_registers};
 use crate::decode::instructions;
 use crate::factors::Factors;
 use crate::failed::Failed;
+use crate::kept_cie::Cie;
 use crate::operand::{byte, half, signed, unsigned};
-use crate::outline::{FrameKind, frame_after};
-use crate::registers::Registers;
+use crate::outline::frame_after;
 use rb_bytes::cursor::Cursor;
 use std::alloc::Global;
 use std::collections::BTreeSet;
@@ -28,16 +28,6 @@ pub struct Head {
     pub data: i64,
     pub ra: u64,
     pub augmentation: Augmentation,
-}
-
-/// A CIE, with what its instructions say of the frame address, the registers that they give a rule, and how many
-/// bytes their expressions have.
-#[derive(Drop)]
-pub struct Cie {
-    pub head: Head,
-    pub frame: FrameKind,
-    pub registers: Registers,
-    pub bytes: u64,
 }
 
 impl Head {
@@ -61,6 +51,7 @@ impl Head {
 fn pass_sizes(version: u8, cursor: &mut Cursor<'_>) -> Result<u16, Failed>
     ensures ok { IfOk result (λ n. spec.sizes_at version cursor.old.left ≡ Ok (n, cursor.new.left)) }
     ensures err { IfErr result (λ e. Fails e (spec.sizes_at version cursor.old.left ≡ Err Entry)) }
+    ensures on { OnOk result (length cursor.new.left ≤ length cursor.old.left) }
 {
     match version {
         1 | 3 => Ok(0),
@@ -80,6 +71,7 @@ fn pass_sizes(version: u8, cursor: &mut Cursor<'_>) -> Result<u16, Failed>
 fn return_register(version: u8, cursor: &mut Cursor<'_>) -> Result<u64, Failed>
     ensures ok { IfOk result (λ r. spec.return_register_at version cursor.old.left ≡ Ok (r, cursor.new.left)) }
     ensures err { IfErr result (λ e. Fails e (spec.return_register_at version cursor.old.left ≡ Err Entry)) }
+    ensures on { OnOk result (length cursor.new.left ≤ length cursor.old.left) }
 {
     if version == 1 {
         return Ok(byte(cursor)? as u64);
@@ -96,6 +88,7 @@ pub(crate) fn read_head(end: u128, cursor: &mut Cursor<'_>) -> Result<Head, Fail
     requires { end < 2 ^ 66 }
     ensures ok { IfOk result (λ h. spec.head_at end cursor.old.left ≡ Ok (head_of h, cursor.new.left)) }
     ensures err { IfErr result (λ e. Fails e (spec.head_at end cursor.old.left ≡ Err Entry)) }
+    ensures on { OnOk result (length cursor.new.left ≤ length cursor.old.left) }
 {
     let version = byte(cursor)?;
     let text = cursor.text()?;
@@ -123,7 +116,7 @@ pub(crate) fn read_cie(alloc: Global, end: u128, body: &[u8]) -> Result<Cie, Fai
     let list = instructions(alloc, &mut cursor, &head.factors(end))?;
     let frame = frame_after(alloc, &list)?;
     let registers = new_registers(alloc, &BTreeSet::new(alloc), &list)?;
-    let bytes = expression_bytes(&list).ok_or(Failed::Memory)?;
+    let bytes = expression_bytes(&list);
     Ok(Cie {
         head,
         frame,

@@ -1,6 +1,6 @@
 // Counts of the instructions of an entry.
-ghost use Rattle.std.specs.Prelude.{◌≡◌, ◌≤◌, ◌<◌, ◌^◌, ◌+◌, ◌++◌, ℕ, List, [], ◌∷◌, length, IfOk, OnOk, IfSome, Some};
-ghost use Rattle.std.specs.Prelude.{None, sum_by, flat_map};
+ghost use Rattle.std.specs.Prelude.{◌≡◌, ◌≤◌, ◌<◌, ◌^◌, ◌+◌, ◌-◌, ◌++◌, ℕ, List, [], ◌∷◌, length, IfOk, OnOk, Some};
+ghost use Rattle.std.specs.Prelude.{None, min, sum_by, flat_map};
 ghost use Rattle.std.specs.Option.{option_to_list};
 ghost use Rattle.cfi_rows.specs.EntryCounts as spec;
 ghost use Rattle.cfi_rows.specs.RegisterSets.{AreIn, AreCounted};
@@ -50,8 +50,9 @@ pub(crate) fn new_registers(
     known: &BTreeSet<u64>,
     instructions: &[Instruction],
 ) -> Result<Registers, NoMemory>
-    ensures { IfOk result (λ r. (xs : List ℕ) → AreIn xs known.now →
+    ensures counted { IfOk result (λ r. (xs : List ℕ) → AreIn xs known.now →
         AreCounted xs (flat_map spec.registers_set instructions.now) known.now r) }
+    ensures few { IfOk result (λ r. r.count < 2 ^ 63) }
 {
     let mut registers = Registers {
         set: BTreeSet::new(alloc),
@@ -63,15 +64,15 @@ pub(crate) fn new_registers(
     Ok(registers)
 }
 
-/// How many bytes the expressions of instructions have together; none if that passes 64 bits.
-pub(crate) fn expression_bytes(instructions: &[Instruction]) -> Option<u64>
-    ensures { IfSome result (λ n. n ≡ sum_by spec.bytes_in instructions.now) }
+/// How many bytes the expressions of instructions have together, or 2^64 - 1 if that passes 64 bits.
+pub(crate) fn expression_bytes(instructions: &[Instruction]) -> u64
+    ensures { result ≡ min (sum_by spec.bytes_in instructions.now) (2 ^ 64 - 1) }
 {
     let mut sum: u64 = 0;
     for instruction in instructions {
-        sum = sum.checked_add(instruction.expression_len() as u64)?;
+        sum = sum.saturating_add(instruction.expression_len() as u64);
     }
-    Some(sum)
+    sum
 }
 
 impl Instruction {

@@ -1,5 +1,6 @@
 // The instructions of an entry. DWARF 5, section 7.24.
-ghost use Rattle.std.specs.Prelude.{◌≡◌, IfOk, IfErr, Ok, Err};
+ghost use Rattle.std.specs.Prelude.{◌≡◌, ◌≤◌, ◌+◌, length, sum_by, IfOk, IfErr, Ok, Err};
+ghost use Rattle.cfi_rows.specs.EntryCounts.{bytes_in};
 ghost use Rattle.cfi_rows.specs.FrameInstructions.{instruction_at, instructions_at};
 ghost use Rattle.cfi_rows.specs.Reads.{Fails, context_of};
 ghost use Rattle.cfi_rows.specs.declared.instruction.Malformed.TheVariants.{Entry};
@@ -26,6 +27,7 @@ fn instruction(
 ) -> Result<Instruction, Failed>
     ensures ok { IfOk result (λ i. instruction_at (context_of factors.now) cursor.old.left ≡ Ok (i, cursor.new.left)) }
     ensures err { IfErr result (λ e. Fails e (instruction_at (context_of factors.now) cursor.old.left ≡ Err Entry)) }
+    ensures room { IfOk result (λ i. bytes_in i + length cursor.new.left ≤ length cursor.old.left) }
 {
     let op = byte(cursor)?;
     match op as u64 {
@@ -45,6 +47,7 @@ pub(crate) fn instructions(
 ) -> Result<Vec<Instruction>, Failed>
     ensures ok { IfOk result (λ is. instructions_at (context_of factors.now) cursor.old.left ≡ Ok is.items) }
     ensures err { IfErr result (λ e. Fails e (instructions_at (context_of factors.now) cursor.old.left ≡ Err Entry)) }
+    ensures room { IfOk result (λ is. sum_by bytes_in is.items ≤ length cursor.old.left) }
 {
     let mut list = Vec::new(alloc);
     // Each instruction takes a byte at least, so nothing is left after the loop.

@@ -8,10 +8,11 @@ ghost use Rattle.cfi_rows.specs.KeptTables.{KeptAs, AreKept, fde_in, said, said_
 ghost use Rattle.cfi_rows.specs.declared.instruction.Malformed.TheVariants.{Entry};
 ghost use Rattle.table_core.specs.ReadSteps.{is_ok};
 
-use crate::cie::{Cie, read_cie};
+use crate::cie::read_cie;
 use crate::failed::Failed;
 use crate::fde::read_fde;
 use crate::frame_table::Fde;
+use crate::kept_cie::Cie;
 use crate::listed::Listed;
 use crate::raw_entry::{RawEntry, walk};
 use rb_bytes::fault::NoMemory;

@@ -1,5 +1,6 @@
 // Operands that a CIE has factors for.
 ghost use Rattle.std.specs.Prelude.{◌≡◌, ◌*◌, ℕ, List, IfOk, IfErr, Ok, Err};
+ghost use Rattle.cfi_rows.specs.EntryCounts.{bytes_in};
 ghost use Rattle.cfi_rows.specs.FrameInstructions.{advance, unsigned_offset, signed_offset};
 ghost use Rattle.cfi_rows.specs.Reads.{Fails, context_of};
 ghost use Rattle.cfi_rows.specs.declared.instruction.Malformed.TheVariants.{Entry};
@@ -13,6 +14,7 @@ impl Factors {
     pub(crate) fn advance(&self, units: u64) -> Result<Instruction, Failed>
         ensures ok { IfOk result (λ i. (rest : List ℕ) → advance (units * self.now.code) rest ≡ Ok (i, rest)) }
         ensures err { IfErr result (λ e. Fails e ((rest : List ℕ) → advance (units * self.now.code) rest ≡ Err Entry)) }
+        ensures none { IfOk result (λ i. bytes_in i ≡ 0) }
     {
         let bytes = units.checked_mul(self.code).ok_or(Failed::Malformed)?;
         Ok(Instruction::Advance(bytes))

@@ -1,5 +1,5 @@
 // Frame description entries. LSB, "The Frame Description Entry Format"; DWARF 5, section 6.4.1.
-ghost use Rattle.std.specs.Prelude.{◌≡◌, ◌+◌, ◌<◌, ◌^◌, List, IfOk, IfErr, IsOkAnd, Ok, Err};
+ghost use Rattle.std.specs.Prelude.{◌≡◌, ◌+◌, ◌<◌, ◌≤◌, ◌^◌, List, length, IfOk, IfErr, OnOk, IsOkAnd, Ok, Err};
 ghost use Rattle.cfi_rows.specs.Entries as spec;
 ghost use Rattle.cfi_rows.specs.FrameRows.{Known};
 ghost use Rattle.cfi_rows.specs.Reads.{Fails};
@@ -11,12 +11,12 @@ ghost use Rattle.cfi_rows.specs.declared.instruction.Instruction.{Instruction};
 ghost use Rattle.cfi_rows.specs.declared.instruction.Malformed.TheVariants.{Entry};
 
 use crate::augmentation::Augmentation;
-use crate::cie::Cie;
 use crate::counts::{expression_bytes, new_registers};
 use crate::decode::instructions;
 use crate::encoding::Encoding;
 use crate::failed::Failed;
 use crate::frame_table::Fde;
+use crate::kept_cie::Cie;
 use crate::outline::row_count;
 use crate::raw_entry::RawEntry;
 use rb_bytes::cursor::Cursor;
@@ -57,6 +57,7 @@ pub(crate) fn read_fde_head(
     ensures err { IfErr result (λ e. Fails e (fde_head_at (augmentation_of augmentation.now) end cursor.old.left
         ≡ Err Entry)) }
     ensures fits { IfOk result (λ h. h.start + h.size < 2 ^ 64) }
+    ensures on { OnOk result (length cursor.new.left ≤ length cursor.old.left) }
 {
     let start = augmentation.encoding.pointer(end, cursor)?;
     let size = augmentation.encoding.of_size().stored(cursor)?;
@@ -65,14 +66,6 @@ pub(crate) fn read_fde_head(
     }
     let table = augmentation.table_pointer(end, cursor)?;
     Ok(FdeHead { start, size, table })
-}
-
-// A sum of counts. What one that passes 64 bits counts couldn't be in memory.
-fn sum(left: u64, right: u64) -> Result<u64, Failed>
-    ensures ok { IfOk result (λ n. n ≡ left + right) }
-    ensures err { IfErr result (λ e. Fails e ⊥) }
-{
-    left.checked_add(right).ok_or(Failed::Memory)
 }
 
 /// An FDE by its entry and its CIE; `end` is the address at which the entry ends.
@@ -93,9 +86,9 @@ pub(crate) fn read_fde(
     let list = instructions(alloc, &mut cursor, &cie.head.factors(end))?;
     let rows = row_count(alloc, &list, head.start, cie.frame)?;
     let added = new_registers(alloc, &cie.registers.set, &list)?;
-    let registers = sum(cie.registers.count as u64, added.count as u64)?;
-    let own = expression_bytes(&list).ok_or(Failed::Memory)?;
-    let bytes = sum(own, cie.bytes)?;
+    let registers = cie.registers.count as u64 + added.count as u64;
+    let own = expression_bytes(&list);
+    let bytes = own + cie.bytes;
     Ok(Fde {
         place: entry.place,
         start: head.start,

@@ -1,6 +1,6 @@
 // The rows of entries at addresses. DWARF 5, section 6.4.3.
-ghost use Rattle.std.specs.Prelude.{◌≡◌, ◌≤◌, ℕ, IfOk, IsTrue, Some, None, slice_get, option_map, option_and_then};
-ghost use Rattle.cfi_rows.specs.Entries.{Fde as Entry, is_in_range};
+ghost use Rattle.std.specs.Prelude.{◌≡◌, ◌≤◌, ℕ, IfOk, Some, None, slice_get, option_and_then};
+ghost use Rattle.cfi_rows.specs.Entries.{Fde as Entry};
 ghost use Rattle.cfi_rows.specs.FrameRows as spec;
 ghost use Rattle.cfi_rows.specs.ReadFrames.{read_as};
 
@@ -10,15 +10,6 @@ use rb_bytes::fault::NoMemory;
 use std::alloc::Global;
 
 impl Frames {
-    /// The row that entry `i` of the list has at `a`, an address of its range. `NoMemory` is answered, too, if there
-    /// is no such entry, or `a` is below all of its rows.
-    pub fn row(&self, alloc: Global, i: usize, a: u64) -> Result<Row, NoMemory>
-        ensures { IfOk result (λ row. (f : Entry) → slice_get (read_as self.now).list i ≡ Some f →
-            IsTrue (is_in_range f a) → spec.row_at a f.rows None ≡ Some row) }
-    {
-        self.row_at(alloc, i, a)?.ok_or(NoMemory)
-    }
-
     /// The last row of entry `i` of the list that begins at or below `a`, if one does. The end of the entry's range
     /// isn't looked at.
     pub fn row_at(&self, alloc: Global, i: usize, a: u64) -> Result<Option<Row>, NoMemory>

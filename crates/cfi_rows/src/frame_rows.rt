@@ -1,9 +1,11 @@
 // The rows of all entries of a frame table. DWARF 5, section 6.4.1.
-ghost use Rattle.std.specs.Prelude.{◌≡◌, ◌<◌, ◌^◌, ℕ, List, IfOk, OnOk, IsOkAnd, Some, Ok, map, slice_get};
+ghost use Rattle.std.specs.Prelude.{◌≡◌, ◌<◌, ◌^◌, IfOk, IfErr, OnOk, IsOkAnd, Some, None, Err, map};
 ghost use Rattle.std.specs.Rc.{rc_value};
-ghost use Rattle.cfi_rows.specs.Entries.{Fde as Entry, cie_place};
+ghost use Rattle.cfi_rows.specs.Entries.{cie_place, frames};
 ghost use Rattle.cfi_rows.specs.ReadEntries.{fde_of};
 ghost use Rattle.cfi_rows.specs.FramePrograms as spec;
+ghost use Rattle.cfi_rows.specs.Reads.{Fails};
+ghost use Rattle.cfi_rows.specs.declared.instruction.Malformed.TheVariants.{Entry};
 
 use crate::cie_program::{CieProgram, read_cie_program};
 use crate::entry_rows::EntryRows;
@@ -24,25 +26,25 @@ pub(crate) fn rows_of(
     held: &Held<'_>,
     list: &[Fde],
 ) -> Result<Vec<EntryRows>, NoMemory>
-    ensures { IfOk result (λ all. (fs : List Entry) → list.now ≡ map fde_of fs →
-        ((i : ℕ) (f : Entry) → slice_get fs i ≡ Some f →
-        spec.fde_standing debug (spec.section_in held.now) f.place ≡ Ok f) →
-        all.items ≡ map (λ f. f.rows) fs) }
+    requires { list.now ≡ map fde_of (frames debug held.now.address held.now.bytes.now).list }
+    ensures { IfOk result (λ all.
+        all.items ≡ map (λ f. f.rows) (frames debug held.now.address held.now.bytes.now).list) }
 {
     let mut cies = BTreeMap::new(alloc);
     let mut all = Vec::new(alloc);
     for fde in list {
         match rows_standing(alloc, debug, held, fde.place, &mut cies) {
             Ok(rows) => all.push(rows)?,
-            // The list has only entries that were read before and weren't malformed, so memory has run out.
-            Err(_) => return Err(NoMemory),
+            Err(Failed::Memory) => return Err(NoMemory),
+            // The list has only entries that were read before and weren't malformed.
+            Err(Failed::Malformed) => unreachable!(),
         }
     }
     Ok(all)
 }
 
-// The rows of the FDE at a place. Each CIE is read once.
-fn rows_standing(
+/// The rows of the FDE at a place. Each CIE is read once.
+pub(crate) fn rows_standing(
     alloc: Global,
     debug: bool,
     held: &Held<'_>,
@@ -51,6 +53,8 @@ fn rows_standing(
 ) -> Result<EntryRows, Failed>
     ensures rows { IfOk result (λ rows. spec.AreRead rc_value debug (spec.section_in held.now) cies.old →
         IfOk (spec.fde_standing debug (spec.section_in held.now) place) (λ f. f.rows ≡ rows)) }
+    ensures err { IfErr result (λ e. Fails e (spec.AreRead rc_value debug (spec.section_in held.now) cies.old →
+        IfOk (spec.fde_standing debug (spec.section_in held.now) place) (λ _. ⊥))) }
     ensures read { OnOk result (spec.AreRead rc_value debug (spec.section_in held.now) cies.old →
         spec.AreRead rc_value debug (spec.section_in held.now) cies.new) }
 {
@@ -68,6 +72,8 @@ fn program_standing(
 ) -> Result<Program, Failed>
     ensures program { IfOk result (λ p. spec.AreRead rc_value debug (spec.section_in held.now) cies.old →
         IfOk (spec.fde_standing debug (spec.section_in held.now) place) (spec.IsProgram p)) }
+    ensures err { IfErr result (λ e. Fails e (spec.AreRead rc_value debug (spec.section_in held.now) cies.old →
+        IfOk (spec.fde_standing debug (spec.section_in held.now) place) (λ _. ⊥))) }
     ensures read { OnOk result (spec.AreRead rc_value debug (spec.section_in held.now) cies.old →
         spec.AreRead rc_value debug (spec.section_in held.now) cies.new) }
 {
@@ -87,6 +93,8 @@ fn cie_of(
     ensures cie { IfOk result (λ k. spec.AreRead rc_value debug (spec.section_in held.now) cies.old →
         IsOkAnd (spec.cie_standing debug (spec.section_in held.now) (cie_place debug fde.now))
         (spec.IsCieProgram (rc_value k))) }
+    ensures err { IfErr result (λ e. Fails e
+        (spec.cie_standing debug (spec.section_in held.now) (cie_place debug fde.now) ≡ Err Entry)) }
     ensures read { OnOk result (spec.AreRead rc_value debug (spec.section_in held.now) cies.old →
         spec.AreRead rc_value debug (spec.section_in held.now) cies.new) }
 {
@@ -106,6 +114,8 @@ fn cie_standing(
 ) -> Result<Rc<CieProgram>, Failed>
     ensures cie { IfOk result (λ k. spec.AreRead rc_value debug (spec.section_in held.now) cies.old →
         IsOkAnd (spec.cie_standing debug (spec.section_in held.now) (Some place)) (spec.IsCieProgram (rc_value k))) }
+    ensures err { IfErr result (λ e. Fails e
+        (spec.cie_standing debug (spec.section_in held.now) (Some place) ≡ Err Entry)) }
     ensures read { OnOk result (spec.AreRead rc_value debug (spec.section_in held.now) cies.old →
         spec.AreRead rc_value debug (spec.section_in held.now) cies.new) }
 {
@@ -120,8 +130,10 @@ fn cie_standing(
 }
 
 // The entry at a place of a section.
+#[tactic(auto, using(crate::proofs::StandingEntries::past_end, crate::proofs::StandingEntries::without))]
 fn entry_standing<'a>(debug: bool, section: &'a [u8], place: u128) -> Result<RawEntry<'a>, Failed>
-    ensures { IfOk result (λ e. spec.entry_standing debug section.now place ≡ Some e) }
+    ensures entry { IfOk result (λ e. spec.entry_standing debug section.now place ≡ Some e) }
+    ensures err { IfErr result (λ e. Fails e (spec.entry_standing debug section.now place ≡ None)) }
 {
     if place > section.len() as u128 {
         return Err(Failed::Malformed);

@@ -1,7 +1,8 @@
 // The machine that the instructions of frame entries run on. DWARF 5, section 6.4.2.
-ghost use Rattle.std.specs.Prelude.{◌≡◌, ◌+◌, [], ◌∷◌, cond, nat_le, None, Some, option_map, IfOk, OnOk};
+ghost use Rattle.std.specs.Prelude.{◌≡◌, ◌+◌, [], ◌∷◌, cond, nat_le, None, Some, option_map, IfOk, IfErr, OnOk};
 ghost use Rattle.std.specs.Rc.{rc_value};
 ghost use Rattle.cfi_rows.specs.FrameRows as spec;
+ghost use Rattle.cfi_rows.specs.Reads.{Fails};
 ghost use Rattle.cfi_rows.specs.RowMachines.{state_of};
 
 use crate::failed::Failed;
@@ -97,41 +98,46 @@ impl Machine {
     /// Does one instruction, as if there were no initial rules: `Restore` takes a register's rule away. The rules of
     /// a CIE are put below its FDE's when a row is asked for.
     pub(crate) fn step(&mut self, alloc: Global, instruction: &Instruction) -> Result<(), Failed>
-        ensures { OnOk result (spec.step [] instruction.now (state_of self.old) ≡ Some (state_of self.new)) }
+        ensures ok { OnOk result (spec.step [] instruction.now (state_of self.old) ≡ Some (state_of self.new)) }
+        ensures err { IfErr result (λ e. Fails e (spec.step [] instruction.now (state_of self.old) ≡ None)) }
     {
         match instruction {
             Instruction::Advance(bytes) => self.advance(*bytes),
             Instruction::SetLoc(address) => self.go_to(*address),
-            Instruction::DefCfa(cfa) => self.define(alloc, cfa.copy(alloc)?),
+            Instruction::DefCfa(cfa) => Ok(self.define(alloc, cfa.copy(alloc)?)?),
             Instruction::DefCfaRegister(register) => match with_register(&self.cfa, *register) {
-                Some(cfa) => self.define(alloc, cfa),
+                Some(cfa) => Ok(self.define(alloc, cfa)?),
                 None => Err(Failed::Malformed),
             },
             Instruction::DefCfaOffset(offset) => match with_offset(&self.cfa, *offset) {
-                Some(cfa) => self.define(alloc, cfa),
+                Some(cfa) => Ok(self.define(alloc, cfa)?),
                 None => Err(Failed::Malformed),
             },
             Instruction::SetRule(register, rule) => {
-                self.replace_rule(*register, Some(Rc::new(alloc, rule.copy(alloc)?)?))
+                Ok(self.replace_rule(*register, Some(Rc::new(alloc, rule.copy(alloc)?)?))?)
             }
-            Instruction::Restore(register) => self.replace_rule(*register, None),
-            Instruction::RememberState => self.remember(alloc),
+            Instruction::Restore(register) => Ok(self.replace_rule(*register, None)?),
+            Instruction::RememberState => Ok(self.remember(alloc)?),
             Instruction::RestoreState => self.restore(),
             Instruction::Nop => Ok(()),
         }
     }
 
     fn advance(&mut self, bytes: u64) -> Result<(), Failed>
-        ensures { OnOk result (spec.moved_to (self.old.location + bytes) (state_of self.old) ≡ Some
+        ensures ok { OnOk result (spec.moved_to (self.old.location + bytes) (state_of self.old) ≡ Some
             (state_of self.new)) }
+        ensures err { IfErr result (λ e. Fails e (spec.moved_to (self.old.location + bytes) (state_of self.old)
+            ≡ None)) }
     {
         self.location = self.location.checked_add(bytes).ok_or(Failed::Malformed)?;
         Ok(())
     }
 
     fn go_to(&mut self, address: u64) -> Result<(), Failed>
-        ensures { OnOk result (cond (nat_le self.old.location address) (spec.moved_to address (state_of self.old)) None
+        ensures ok { OnOk result (cond (nat_le self.old.location address) (spec.moved_to address (state_of self.old)) None
             ≡ Some (state_of self.new)) }
+        ensures err { IfErr result (λ e. Fails e (cond (nat_le self.old.location address)
+            (spec.moved_to address (state_of self.old)) None ≡ None)) }
     {
         if address < self.location {
             return Err(Failed::Malformed);
@@ -140,14 +146,14 @@ impl Machine {
         Ok(())
     }
 
-    fn define(&mut self, alloc: Global, cfa: Cfa) -> Result<(), Failed>
+    fn define(&mut self, alloc: Global, cfa: Cfa) -> Result<(), NoMemory>
         ensures { OnOk result (spec.with_cfa (state_of self.old) cfa ≡ state_of self.new) }
     {
         self.cfa = Some(Rc::new(alloc, cfa)?);
         Ok(())
     }
 
-    fn replace_rule(&mut self, register: u64, rule: Option<Rc<Rule>>) -> Result<(), Failed>
+    fn replace_rule(&mut self, register: u64, rule: Option<Rc<Rule>>) -> Result<(), NoMemory>
         ensures { OnOk result (spec.with_rules (state_of self.old)
             (spec.restored register (option_map rc_value rule) self.old.rules) ≡ state_of self.new) }
     {
@@ -156,7 +162,7 @@ impl Machine {
         Ok(())
     }
 
-    fn remember(&mut self, alloc: Global) -> Result<(), Failed>
+    fn remember(&mut self, alloc: Global) -> Result<(), NoMemory>
         ensures { OnOk result (record {
           location = (state_of self.old).location;
           known = (state_of self.old).known;
@@ -170,8 +176,10 @@ impl Machine {
     }
 
     fn restore(&mut self) -> Result<(), Failed>
-        ensures { OnOk result (spec.take_back (state_of self.old) (state_of self.old).saved ≡ Some
+        ensures ok { OnOk result (spec.take_back (state_of self.old) (state_of self.old).saved ≡ Some
             (state_of self.new)) }
+        ensures err { IfErr result (λ e. Fails e (spec.take_back (state_of self.old) (state_of self.old).saved
+            ≡ None)) }
     {
         let Some(saved) = self.saved.pop() else {
             return Err(Failed::Malformed);

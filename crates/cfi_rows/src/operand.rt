@@ -1,5 +1,5 @@
 // Operands: numbers and blocks at the front of the bytes left.
-ghost use Rattle.std.specs.Prelude.{◌≡◌, ◌<◌, length, IfOk, IfErr, OnOk, Ok, Err};
+ghost use Rattle.std.specs.Prelude.{◌≡◌, ◌+◌, ◌≤◌, length, IfOk, IfErr, OnOk, Ok, Err};
 ghost use Rattle.rb_bytes.specs.Readers.{number_read, text_at};
 ghost use Rattle.rb_bytes.specs.Leb.{uleb_at, sleb_at};
 ghost use Rattle.cfi_rows.specs.FrameInstructions.{whole, block_at};
@@ -14,6 +14,7 @@ use std::alloc::Global;
 pub(crate) fn byte(cursor: &mut Cursor<'_>) -> Result<u8, Failed>
     ensures ok { IfOk result (λ n. whole (number_read 1 cursor.old.left) ≡ Ok (n, cursor.new.left)) }
     ensures err { IfErr result (λ e. Fails e (whole (number_read 1 cursor.old.left) ≡ Err Entry)) }
+    ensures on { OnOk result (length cursor.new.left ≤ length cursor.old.left) }
 {
     Ok(cursor.u8()?)
 }
@@ -21,6 +22,7 @@ pub(crate) fn byte(cursor: &mut Cursor<'_>) -> Result<u8, Failed>
 pub(crate) fn half(cursor: &mut Cursor<'_>) -> Result<u16, Failed>
     ensures ok { IfOk result (λ n. whole (number_read 2 cursor.old.left) ≡ Ok (n, cursor.new.left)) }
     ensures err { IfErr result (λ e. Fails e (whole (number_read 2 cursor.old.left) ≡ Err Entry)) }
+    ensures on { OnOk result (length cursor.new.left ≤ length cursor.old.left) }
 {
     Ok(cursor.u16()?)
 }
@@ -28,6 +30,7 @@ pub(crate) fn half(cursor: &mut Cursor<'_>) -> Result<u16, Failed>
 pub(crate) fn word(cursor: &mut Cursor<'_>) -> Result<u32, Failed>
     ensures ok { IfOk result (λ n. whole (number_read 4 cursor.old.left) ≡ Ok (n, cursor.new.left)) }
     ensures err { IfErr result (λ e. Fails e (whole (number_read 4 cursor.old.left) ≡ Err Entry)) }
+    ensures on { OnOk result (length cursor.new.left ≤ length cursor.old.left) }
 {
     Ok(cursor.u32()?)
 }
@@ -35,6 +38,7 @@ pub(crate) fn word(cursor: &mut Cursor<'_>) -> Result<u32, Failed>
 pub(crate) fn unsigned(cursor: &mut Cursor<'_>) -> Result<u64, Failed>
     ensures ok { IfOk result (λ n. whole (uleb_at cursor.old.left) ≡ Ok (n, cursor.new.left)) }
     ensures err { IfErr result (λ e. Fails e (whole (uleb_at cursor.old.left) ≡ Err Entry)) }
+    ensures on { OnOk result (length cursor.new.left ≤ length cursor.old.left) }
 {
     Ok(cursor.uleb()?)
 }
@@ -42,6 +46,7 @@ pub(crate) fn unsigned(cursor: &mut Cursor<'_>) -> Result<u64, Failed>
 pub(crate) fn signed(cursor: &mut Cursor<'_>) -> Result<i64, Failed>
     ensures ok { IfOk result (λ n. whole (sleb_at cursor.old.left) ≡ Ok (n, cursor.new.left)) }
     ensures err { IfErr result (λ e. Fails e (whole (sleb_at cursor.old.left) ≡ Err Entry)) }
+    ensures on { OnOk result (length cursor.new.left ≤ length cursor.old.left) }
 {
     Ok(cursor.sleb()?)
 }
@@ -50,6 +55,7 @@ pub(crate) fn signed(cursor: &mut Cursor<'_>) -> Result<i64, Failed>
 pub(crate) fn block(alloc: Global, cursor: &mut Cursor<'_>) -> Result<Expression, Failed>
     ensures ok { IfOk result (λ b. block_at cursor.old.left ≡ Ok (b, cursor.new.left)) }
     ensures err { IfErr result (λ e. Fails e (block_at cursor.old.left ≡ Err Entry)) }
+    ensures room { IfOk result (λ b. length b + length cursor.new.left ≤ length cursor.old.left) }
 {
     let length = unsigned(cursor)?;
     let from = cursor.take(length as usize)?;

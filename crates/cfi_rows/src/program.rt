@@ -1,8 +1,10 @@
 // The rows that the instructions of an FDE describe, from the state known after its CIE.
 // DWARF 5, sections 6.4.1 and 6.4.3.
-ghost use Rattle.std.specs.Prelude.{◌≡◌, ◌<◌, ◌^◌, Some, IfOk};
+ghost use Rattle.std.specs.Prelude.{◌≡◌, ◌<◌, ◌^◌, Some, None, Err, IfOk, IfErr};
 ghost use Rattle.std.specs.Rc.{rc_value};
 ghost use Rattle.cfi_rows.specs.Entries.{Cie, RawEntry, fde_at};
+ghost use Rattle.cfi_rows.specs.Reads.{Fails};
+ghost use Rattle.cfi_rows.specs.declared.instruction.Malformed.TheVariants.{Entry};
 ghost use Rattle.cfi_rows.specs.FramePrograms.{rows_of, IsCieProgram, IsProgram};
 
 use crate::cie_program::CieProgram;
@@ -33,8 +35,10 @@ pub(crate) fn read_program(
     body: &[u8],
 ) -> Result<Program, Failed>
     requires { end < 2 ^ 66 }
-    ensures { IfOk result (λ p. (c : Cie) (e : RawEntry) → IsCieProgram (rc_value cie) c → e.body ≡ body.now →
+    ensures program { IfOk result (λ p. (c : Cie) (e : RawEntry) → IsCieProgram (rc_value cie) c → e.body ≡ body.now →
         IfOk (fde_at c end e) (IsProgram p)) }
+    ensures err { (c : Cie) (e : RawEntry) → IsCieProgram (rc_value cie) c → e.body ≡ body.now →
+        IfErr result (λ x. Fails x (fde_at c end e ≡ Err Entry)) }
 {
     let mut cursor = Cursor::new(body);
     let head = read_fde_head(&cie.head.augmentation, end, &mut cursor)?;
@@ -49,17 +53,18 @@ pub(crate) fn read_program(
 impl Program {
     /// Runs the instructions, and keeps all rows.
     pub(crate) fn run(&self, alloc: Global) -> Result<EntryRows, Failed>
-        ensures { IfOk result (λ rows. rows_of self.now ≡ Some rows) }
+        ensures rows { IfOk result (λ rows. rows_of self.now ≡ Some rows) }
+        ensures err { IfErr result (λ e. Fails e (rows_of self.now ≡ None)) }
     {
         let known = &self.initial.known;
+        // Only for the clause of `len` that the rules of the CIE ascend by register, as the rules of rows have to.
+        let _ = known.rules.len();
         let mut machine = Machine::begin(alloc, self.start, &known.cfa)?;
         let mut history = RowHistory::new(alloc);
         for instruction in &self.instructions {
             history.run(alloc, &mut machine, instruction)?;
         }
         history.add_row(&machine)?;
-        // Only for the clause of `len` that the rules of the CIE ascend by register, as the rules of rows have to.
-        let _ = known.rules.len();
         Ok(EntryRows {
             initial: self.initial.clone()?,
             history,

@@ -1,7 +1,8 @@
 // The rows of an FDE as its instructions run: by the changes of rules that lead from one row to the next.
-ghost use Rattle.std.specs.Prelude.{◌≡◌, [], ◌∷◌, List, Option, Some, reverse, option_map, OnOk};
+ghost use Rattle.std.specs.Prelude.{◌≡◌, [], ◌∷◌, List, Option, Some, None, reverse, option_map, IfErr, OnOk};
 ghost use Rattle.std.specs.Rc.{rc_value};
 ghost use Rattle.cfi_rows.specs.FrameRows as spec;
+ghost use Rattle.cfi_rows.specs.Reads.{Fails};
 ghost use Rattle.cfi_rows.specs.RuleChanges.{after_changes};
 ghost use Rattle.cfi_rows.specs.RowMachines.{state_of};
 ghost use Rattle.cfi_rows.specs.RowHistories.{Keeps, Goes, told, before};
@@ -11,6 +12,7 @@ use crate::instruction::Instruction;
 use crate::machine::Machine;
 use crate::row::{Cfa, Rule};
 use crate::rules::{Change, RuleMap};
+use rb_bytes::fault::NoMemory;
 use std::alloc::Global;
 use std::rc::Rc;
 
@@ -65,11 +67,14 @@ impl RowHistory {
         ensures rows { OnOk result (Keeps self.old machine.old.rules → (is : List Instruction) →
             before (told self.old) (spec.rows [] (instruction.now ∷ is) (state_of machine.old))
             ≡ before (told self.new) (spec.rows [] is (state_of machine.new))) }
+        ensures err { IfErr result (λ e. Fails e ((is : List Instruction) →
+            spec.rows [] (instruction.now ∷ is) (state_of machine.old) ≡ None)) }
     {
         self.end_row(machine, instruction)?;
         self.add_changes(alloc, machine, instruction)?;
         machine.step(alloc, instruction)?;
-        self.keep_rules(machine)
+        self.keep_rules(machine)?;
+        Ok(())
     }
 
     // Adds the row that a machine has reached, if an instruction ends it.
@@ -78,6 +83,8 @@ impl RowHistory {
         ensures rows { OnOk result (Keeps self.old machine.now.rules → (more : Option (List spec.PlacedRow)) →
             before (told self.old) (spec.and_rows (spec.ends_row instruction.now) (state_of machine.now) more)
             ≡ before (told self.new) more) }
+        ensures err { IfErr result (λ e. Fails e ((more : Option (List spec.PlacedRow)) →
+            spec.and_rows (spec.ends_row instruction.now) (state_of machine.now) more ≡ None)) }
     {
         if instruction.ends_row() {
             return self.add_row(machine);
@@ -91,6 +98,8 @@ impl RowHistory {
         ensures rows { OnOk result (Keeps self.old machine.now.rules → (more : Option (List spec.PlacedRow)) →
             before (told self.old) (spec.prepended machine.now.location (spec.row_of (state_of machine.now).known) more)
             ≡ before (told self.new) more) }
+        ensures err { IfErr result (λ e. Fails e ((more : Option (List spec.PlacedRow)) →
+            spec.prepended machine.now.location (spec.row_of (state_of machine.now).known) more ≡ None)) }
     {
         let Some(cfa) = &machine.cfa else {
             return Err(Failed::Malformed);
@@ -111,7 +120,7 @@ impl RowHistory {
         alloc: Global,
         machine: &Machine,
         instruction: &Instruction,
-    ) -> Result<(), Failed>
+    ) -> Result<(), NoMemory>
         ensures { OnOk result ((t : spec.State) → Keeps self.old machine.now.rules →
             spec.step [] instruction.now (state_of machine.now) ≡ Some t → Goes self.old self.new t.known.rules) }
     {
@@ -131,7 +140,7 @@ impl RowHistory {
         }
     }
 
-    fn add_change(&mut self, register: u64, rule: Option<Rc<Rule>>) -> Result<(), Failed>
+    fn add_change(&mut self, register: u64, rule: Option<Rc<Rule>>) -> Result<(), NoMemory>
         ensures { OnOk result ((rules : spec.Rules) → Keeps self.old rules →
             Goes self.old self.new (spec.restored register (option_map rc_value rule) rules)) }
     {
@@ -140,7 +149,7 @@ impl RowHistory {
     }
 
     // Adds the changes that take others back, the last one first.
-    fn add_undone(&mut self, changes: &[Change]) -> Result<(), Failed>
+    fn add_undone(&mut self, changes: &[Change]) -> Result<(), NoMemory>
         ensures { OnOk result ((rules : spec.Rules) → Keeps self.old rules →
             Goes self.old self.new (after_changes rules (reverse changes.now))) }
     {
@@ -153,7 +162,7 @@ impl RowHistory {
     }
 
     // Keeps the rules of a machine, if enough changes were made since rules were kept last.
-    fn keep_rules(&mut self, machine: &Machine) -> Result<(), Failed>
+    fn keep_rules(&mut self, machine: &Machine) -> Result<(), NoMemory>
         ensures { OnOk result (Keeps self.old machine.now.rules → Goes self.old self.new machine.now.rules) }
     {
         let changes = self.changes.len();

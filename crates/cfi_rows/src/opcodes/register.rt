@@ -1,5 +1,6 @@
 // Opcodes whose first operand is a register.
-ghost use Rattle.std.specs.Prelude.{◌≡◌, ◌≤◌, ◌<◌, IfOk, IfErr, Ok, Err};
+ghost use Rattle.std.specs.Prelude.{◌≡◌, ◌≤◌, ◌<◌, ◌+◌, length, IfOk, IfErr, Ok, Err};
+ghost use Rattle.cfi_rows.specs.EntryCounts.{bytes_in};
 ghost use Rattle.cfi_rows.specs.FrameInstructions.{instruction_of};
 ghost use Rattle.cfi_rows.specs.Reads.{Fails, context_of};
 ghost use Rattle.cfi_rows.specs.declared.instruction.Malformed.TheVariants.{Entry};
@@ -24,6 +25,7 @@ pub(crate) fn register(
     ensures ok { IfOk result (λ i. instruction_of (context_of factors.now) op cursor.old.left ≡ Ok
         (i, cursor.new.left)) }
     ensures err { IfErr result (λ e. Fails e (instruction_of (context_of factors.now) op cursor.old.left ≡ Err Entry)) }
+    ensures room { IfOk result (λ i. bytes_in i + length cursor.new.left ≤ length cursor.old.left) }
 {
     let register = unsigned(cursor)?;
     match op as u64 {

@@ -1,4 +1,4 @@
-use Rattle.std.proofs.Common.{arith, ap, length, ◌≡◌, ◌<◌, ◌≤◌, get_or, rules}
+use Rattle.std.proofs.Common.{arith, ap, ◌≡◌, ◌<◌, ◌≤◌, get_or, rules}
 use Rattle.std.proofs.lemmas.Bool.Decides.{nat_tests}
 use Rattle.cfi_rows.specs.declared.row_history.KeptRow.{KeptRow}
 use Rattle.cfi_rows.proofs.row_lookup.last_before.Goals as goal

@@ -1,4 +1,4 @@
-use Rattle.std.proofs.Common.{◌≡◌, ◌∙◌, ◌<◌, ◌≤◌, ℕ, None, ap, arith, map, length, subst, sym, get_or, List}
+use Rattle.std.proofs.Common.{◌∙◌, ◌<◌, ◌≤◌, ℕ, ap, arith, map, length, subst, sym, get_or, List}
 use Rattle.std.specs.Rc.{rc_value}
 use Rattle.cfi_rows.specs.declared.row_history.KeptRow.{KeptRow}
 use Rattle.cfi_rows.specs.RowHistories.{row_over, told_row}
