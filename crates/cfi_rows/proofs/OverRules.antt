@@ -112,6 +112,15 @@ same-rules (x ∷ xs) (y ∷ ys) lo hi a c r =
           let v : x.1 ≡ y.1 = same_Some _ _ (sym (first-found x.0 x xs refl) ∙ r x.0 ∙ first-found x.0 y ys (sym s)) in
           λ i. pair-same _ _ _ _ s v i ∷ more s i
 
+-- Without other rules
+
+pub over-none : (xs : Rules) → Ascend 0 xs → over [] xs ≡ xs
+over-none xs a = same-rules (over [] xs) xs 0 0 (over-ascend [] xs tt) a (λ q. rule-over q 0 [] xs a ∙ or-none (rule_of q xs))
+  where
+    or-none : (o : Option Rule) → option_or o None ≡ o
+    or-none None = refl
+    or-none (Some r) = refl
+
 -- A change of overriding rules
 
 pub over-with : (initial xs : Rules) (k : ℕ) (v : Rule) → Ascend 0 initial → Ascend 0 xs

@@ -42,7 +42,7 @@ pub struct RowHistory {
 }
 
 // The least number of changes between rules that are kept.
-const KEPT_EVERY: usize = 64;
+const KEPT_EVERY: usize = 4;
 
 impl RowHistory {
     pub(crate) fn new(alloc: Global) -> RowHistory

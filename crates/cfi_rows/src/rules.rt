@@ -1,5 +1,5 @@
 // The rules of registers, and how they are changed and put back.
-ghost use Rattle.std.specs.Prelude.{◌≡◌, ◌<◌, ◌^◌, [], reverse, option_map, IfOk, OnOk};
+ghost use Rattle.std.specs.Prelude.{◌≡◌, ◌<◌, ◌^◌, [], length, reverse, option_map, IfOk, OnOk};
 ghost use Rattle.std.specs.Rc.{rc_value};
 ghost use Rattle.cfi_rows.specs.FrameRows.{rule_of, with_rule, without_rule, restored};
 ghost use Rattle.cfi_rows.specs.RuleEntries.{Ascend};
@@ -67,6 +67,7 @@ impl RuleMap {
 
     /// How many registers have a rule. A clause says that they ascend.
     pub(crate) fn len(&self) -> usize
+        ensures count { result ≡ length self.now }
         ensures small { result < 2 ^ 63 }
         ensures ascends { Ascend 0 self.now }
     {
@@ -74,9 +75,15 @@ impl RuleMap {
     }
 
     /// Other rules, overridden by these.
-    pub(crate) fn over(&self, others: &RuleMap) -> Result<RuleMap, NoMemory>
-        ensures { IfOk result (λ rules. rules ≡ over others.now self.now) }
+    pub(crate) fn over(self, others: &RuleMap) -> Result<RuleMap, NoMemory>
+        ensures { IfOk result (λ rules. rules ≡ over others.now self) }
     {
+        if self.len() == 0 {
+            return others.shared();
+        }
+        if others.len() == 0 {
+            return Ok(self);
+        }
         let mut rules = others.shared()?;
         for (register, rule) in self.by_register.iter() {
             rules.replace(*register, Some(rule.clone()?))?;

@@ -5,4 +5,4 @@ use Rattle.cfi_rows.specs.RuleChanges.{over}
 use Rattle.cfi_rows.proofs.rules.RuleMap.over.Given as goal
 
 abbrev pub invariant-loop-register : goal.invariant-loop-register
-invariant-loop-register l = over l.rules (map (valued rc_value) l.register-iterator) ≡ over l.others l.self
+invariant-loop-register l = over l.rules (map (valued rc_value) l.register-iterator) ≡ over l.others l.fn.self
