@@ -398,6 +398,7 @@ def main():
     words.add_argument("--keep", help="a folder for what is built")
     words.add_argument("checks", metavar="CHECK", nargs="*", choices=[*every, []], help="all if none is named")
     given = words.parse_args()
+    signal.signal(signal.SIGINT, signal.default_int_handler)  # a shell lets what it starts behind `&` ignore it
     if not compilers():
         sys.exit(NO_COMPILER)
     with tempfile.TemporaryDirectory() as room:
