@@ -11,11 +11,12 @@ A line of SAMPLES has an address in hexadecimal, as `perf script -F ip` prints i
 
 A block ran about as often as samples fell into it, divided by its instructions. How often control went which way from
 its end isn't sampled: edges get the counts that make the samples of the blocks on both sides likely, while what enters
-a block leaves it. A call is made as often as its block ran, to the function that it names; a call by a pointer goes to
-functions that have more samples than calls by name explain; and what is called returns. `sudrepka repair` then balances
-these counts with the least change, which also gives counts to blocks between others that had no sample. A function with
-an exception table is one block, and samples don't distinguish what happens in it. Counts are relative: don't add them
-to those of a recorded run.
+a block leaves it, and a function is entered as often as it is called by name (`sample_fit.py`). Few samples on the ways
+from a branch are weighed against what is known of branches: most always go the same way. A call is made as often as its
+block ran, to the function that it names; a call by a pointer goes to functions that ran more often than calls by name
+explain; and what is called returns. `sudrepka repair` then balances these counts with the least change, which also
+gives counts to blocks between others that had no sample. A function with an exception table is one block, and samples
+don't distinguish what happens in it. Counts are relative: don't add them to those of a recorded run.
 """
 import argparse
 import collections
@@ -24,13 +25,11 @@ import re
 import sys
 import tempfile
 
-from program_graph import (CALL, JUMP, RETURN, Failure, Graph, add_tool_option, call_tool, find_tool, run_script,
-                           signed, want_other, written_whole)
+from program_graph import (CALL, RETURN, Failure, Graph, add_tool_option, call_tool, find_tool, run_script, want_other,
+                           written_whole)
+from sample_fit import call_target, calls_of, fitted
 
 SCALE = 1000  # what a sample in a block of one instruction counts
-UNSEEN = 0.1  # samples that a block counts as in which none fell, in a function in which some did
-BALANCE = 20  # instructions of a block that speak for as much to leave it as enters it, beside its own for its samples
-SCALINGS, STEPS = 15, 60
 SAMPLE = re.compile(r"(?:([0-9]+)\s+)?(?:0x)?([0-9a-fA-F]{1,16})")
 
 
@@ -52,81 +51,6 @@ def read_samples(lines, graph):
     return samples, others
 
 
-class Fit:
-    """The edges of those functions in which samples fell, and counts of them that make these samples likely.
-
-    In a block of n instructions that ran c times some n * c samples fall, as a Poisson distribution has it, where c is
-    the sum of the edges to it, and that of the edges from it. Edges from and to elsewhere make up for what a function
-    gets and gives. Counts are in samples of one instruction.
-    """
-
-    def __init__(self, graph, samples):
-        functions = {graph.blocks[start].function for start in samples}
-        blocks = [block for block in graph.blocks.values() if block.function in functions]
-        number = {block.start: i for i, block in enumerate(blocks)}
-        number[None] = None
-        self.sizes = [len(block.code) for block in blocks]
-        self.samples = [samples.get(block.start) or UNSEEN for block in blocks]
-        self.edges = [edge for edge in graph.edges if all(place in number for place in edge)]
-        self.ends = [(number[source], number[target]) for source, target in self.edges]
-        self.counts = [1.0] * len(self.edges)
-        self.leaving, self.entering = ([[] for _ in blocks] for _ in range(2))
-        for i, (source, target) in enumerate(self.ends):
-            if source is not None:
-                self.leaving[source].append(i)
-            if target is not None:
-                self.entering[target].append(i)
-
-    def sums(self, groups):
-        """By block the sum of some of its edges."""
-        counts = self.counts
-        return [sum([counts[i] for i in group]) for group in groups]
-
-    def scale(self):
-        """Scales the edges from each block, and then those to it, so that their sums are what its samples say."""
-        for groups in (self.leaving, self.entering):
-            for group, total, seen, size in zip(groups, self.sums(groups), self.samples, self.sizes):
-                for i in group if total else ():
-                    self.counts[i] *= seen / size / total
-
-    def improve(self):
-        """A step of expectation maximization. Each block speaks for the edges to it by its samples and by the sum of
-        the edges from it, as if that had been sampled too, in BALANCE instructions; and so for the edges from it."""
-        entered, left = self.sums(self.entering), self.sums(self.leaving)
-        to_enter, to_leave = self.wanted(entered, left), self.wanted(left, entered)
-        for i, (source, target) in enumerate(self.ends):
-            wanted = weight = 0.0
-            if target is not None:
-                wanted, weight = to_enter[target], self.sizes[target] + BALANCE
-            if source is not None:
-                wanted, weight = wanted + to_leave[source], weight + self.sizes[source] + BALANCE
-            self.counts[i] *= wanted / weight if weight else 1
-
-    def wanted(self, sums, others):
-        """By block the factor of its edges on one side, times its weight, by the sums of both sides."""
-        return [(seen + BALANCE * (other or own)) / own if own else 0.0
-                for seen, own, other in zip(self.samples, sums, others)]
-
-
-def fitted(graph, samples):
-    """The counts of edges between blocks, in samples of one instruction, that samples by blocks speak for."""
-    fit = Fit(graph, samples)
-    for _ in range(SCALINGS):
-        fit.scale()
-    for _ in range(STEPS):
-        fit.improve()
-    return {edge: count for edge, count in zip(fit.edges, fit.counts) if None not in edge}
-
-
-def call_target(graph, at):
-    """Where a call or jump goes that names its target, by itself or with an AUIPC before it; or nothing."""
-    elf = graph.elf
-    word, before = elf.word(at), elf.word(at - 4) if at - 4 in graph.owner else 0
-    if word & 0x7F == 0x67 and before & 0x7F == 0x17 and before >> 7 & 31 == word >> 15 & 31:
-        return at - 4 + 4096 * signed(before, range(31, 11, -1)) + signed(word, range(31, 19, -1))
-    return elf.target(at)
-
-
 class Calls:
     """The calls, and the jumps out of functions, in blocks with counts: `named` by the instruction and its target, and
     `pointed`, those by pointers, by the instruction alone."""
@@ -135,10 +59,8 @@ class Calls:
         self.graph, self.counts = graph, counts
         self.named, self.pointed = collections.Counter(), {}
         for start, count in counts.items():
-            for at in graph.blocks[start].code:
-                kind = graph.elf.kind(at)
-                if kind == CALL or kind == JUMP and None in graph.successors[start]:
-                    self._add(at, count)
+            for at in calls_of(graph, start):
+                self._add(at, count)
 
     def _add(self, at, count):
         end = call_target(self.graph, at)
@@ -201,11 +123,11 @@ def paired(sources, targets):
 
 def guessed_profile(graph, samples):
     """The counts of pairs of instructions that samples by blocks speak for."""
-    counts = {start: SCALE * count / len(graph.blocks[start].code) for start, count in samples.items()}
+    edges, blocks = fitted(graph, samples)
     found = collections.Counter()
-    for (start, end), count in fitted(graph, samples).items():
+    for (start, end), count in edges.items():
         found[graph.blocks[start].last, end] += SCALE * count
-    calls = Calls(graph, counts)
+    calls = Calls(graph, {start: SCALE * count for start, count in blocks.items()})
     made = calls.all()
     found.update(made)
     found.update(calls.returns(made))
