@@ -195,7 +195,7 @@ class Optimizer:
         if reason == "Operate":
             self.without = ["--without", f"@{address}"]
         return (f"{said}{' in ' if name else ''}{name}: nothing is proved of what comes after that; \"Stuck runs\" in "
-                "docs/USING.md has cause and cure")
+                "docs/REFERENCE.md has cause and cure")
 
     def take_profile(self):
         """Takes the profile by which the code is moved, and refines it."""
