@@ -3,7 +3,7 @@ import math
 
 from program_graph import BRANCH, CALL, JUMP, signed
 
-UNSEEN = 0.05  # samples that a block counts as in which none fell, in a function in which some did
+UNSEEN = 0.05  # samples that a block counts as in which none fell
 BALANCE = 20  # instructions of a block that speak for as much to leave it as enters it, beside its own for its samples
 CALLED = 10  # instructions of a block that speak for it to run as often as each of its calls enters a function
 EVEN = 0.3  # samples at the end of a block that speak for all edges from it to have the same count
@@ -35,8 +35,16 @@ def calls_of(graph, start):
             yield at
 
 
+def reached(graph, functions):
+    """Some functions, and those that they call by name."""
+    ends = {call_target(graph, at) for start, block in graph.blocks.items() if block.function in functions
+            for at in calls_of(graph, start)}
+    return functions | {graph.owner[end].function for end in ends if end in graph.owner}
+
+
 class Fit:
-    """The edges of those functions in which samples fell, and counts of them that make these samples likely.
+    """The edges of functions in which samples fell, and of those that they call by name, with counts that make these
+    samples likely.
 
     In a block of n instructions that ran c times some n * c samples fall, as a Poisson distribution has it, where c is
     the sum of the edges to it, and that of the edges from it. A call of a function by name is an edge to its first
@@ -45,7 +53,7 @@ class Fit:
     """
 
     def __init__(self, graph, samples):
-        functions = {graph.blocks[start].function for start in samples}
+        functions = reached(graph, {graph.blocks[start].function for start in samples})
         self.graph, self.blocks = graph, [block for block in graph.blocks.values() if block.function in functions]
         self.number = {None: None, **{block.start: i for i, block in enumerate(self.blocks)}}
         self.sizes = [len(block.code) for block in self.blocks]
@@ -61,9 +69,11 @@ class Fit:
                 self.entering[target].append(i)
         self.callers = list(self._calls())
         self.counts = [1.0] * len(self.ends)
+        self.even = [EVEN / len(group) if len(group) > 1 else 0.0
+                     for group in (self.leaving[source] if source is not None else () for source, _ in self.ends)]
 
     def _calls(self):
-        """Adds an edge for each call that names its function. Gives these edges, with the blocks of the calls."""
+        """Adds an edge for each call that names its function, and gives it with the block of the call."""
         for block, it in enumerate(self.blocks):
             for at in calls_of(self.graph, it.start):
                 target = self.number.get(call_target(self.graph, at))
@@ -99,17 +109,16 @@ class Fit:
         entered, left, called = map(self.sums, (self.entering, self.leaving, self.calls))
         to_enter, to_leave = self.wanted(entered, left, called), self.wanted(left, entered, called)
         weights = [size + BALANCE + CALLED * len(calls) for size, calls in zip(self.sizes, self.calls)]
-        counts = self.counts[:]
-        for i, (source, target) in enumerate(self.ends):
+        counts = []
+        for (source, target), count, even in zip(self.ends, self.counts, self.even):
             wanted = weight = 0.0
             if target is not None:
                 wanted, weight = to_enter[target], weights[target]
             if source is not None:
                 wanted, weight = wanted + to_leave[source], weight + weights[source]
-                others = len(self.leaving[source])
-                if others > 1 and counts[i] > TINY < left[source]:
-                    wanted, weight = wanted + EVEN / others / counts[i], weight + EVEN / left[source]
-            counts[i] *= wanted / weight if weight else 1
+                if even and count > TINY < left[source]:
+                    wanted, weight = wanted + even / count, weight + EVEN / left[source]
+            counts.append(count * (wanted / weight) if weight else count)
         for i, block in self.callers:
             target, ran = self.ends[i][1], entered[block] or left[block]
             wanted = to_enter[target] * self.counts[i] + self.samples[block] + BALANCE * ran
@@ -174,8 +183,8 @@ class Fit:
 
 
 def fitted(graph, samples):
-    """Counts that samples by blocks speak for, in samples of one instruction: of the edges between blocks, and of the
-    blocks of functions in which some fell."""
+    """Counts that samples by blocks speak for, in samples of one instruction: of the edges between blocks, and of
+    blocks."""
     fit = Fit(graph, samples)
     fit.begin()
     for _ in range(STEPS):
