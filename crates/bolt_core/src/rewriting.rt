@@ -77,7 +77,16 @@ pub fn rewrite(alloc: Global, file: &[u8], profile: &[u8]) -> Result<Rewritten, 
     let (map, emitted) = moved_code(alloc, funcs, &program.refs, blocks, &plan, start)?;
     let weighed = check_weight(alloc, &program.elf, &tables, &map)?;
     let code = emitted.code.len();
-    let given = new_tables(alloc, &program.elf, &tables, &map, start, code, weighed)?;
+    let given = new_tables(
+        alloc,
+        &program.elf,
+        funcs,
+        &tables,
+        &map,
+        start,
+        code,
+        weighed,
+    )?;
     let written = elf_write::write(alloc, &program.elf, funcs, &cold, &emitted, &map, &given)?;
     are_bytes(&written);
     let instructions = count_insts(funcs)?;

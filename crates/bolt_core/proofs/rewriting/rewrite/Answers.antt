@@ -1,16 +1,17 @@
-use Rattle.std.proofs.Common.{All, ◌≡◌, ◌∙◌, ◌+◌, ap, refl, sym, subst, ◌<◌, ◌≤◌, ◌^◌, ℕ, List, length, map}
+use Rattle.std.proofs.Common.{All, arith, ◌≡◌, ◌∙◌, ◌+◌, ap, refl, sym, subst, ◌<◌, ◌≤◌, ◌^◌, ℕ, List, length, map}
 use Rattle.std.specs.Prelude.{sum}
 use Rattle.std.proofs.lemmas.Result.{err_from_is_err_and}
 use Rattle.edge_profile.specs.PairCounts.{ArePairs, Counted}
 use Rattle.edge_profile.specs.Profile.{profile_counts, pairs_of}
 use Rattle.edge_profile.specs.Weights.{block_weight}
 use Rattle.func_place.specs.Placement.{IsPlacement}
+use Rattle.program.specs.Limits.{function_limit, many_functions}
 use Rattle.program.specs.Program.{IsProgramOf, Program, program_of, program_seen}
 use Rattle.program.specs.Room.{new_start}
 use Rattle.program.proofs.Programs.{laid_out}
 use Rattle.rv_code.specs.layout.FunctionLists.{address_end}
 use Rattle.addr_map.specs.Spans.{IsStretch}
-use Rattle.bolt_core.specs.Limits.{IsTooLarge}
+use Rattle.bolt_core.specs.Limits.{IsTooLarge, large_code}
 use Rattle.bolt_core.specs.ProfileOrder.{ArePartsBy, IsProfileOrder}
 use Rattle.bolt_core.specs.Refusals.{CanStand, Fit, IsInput}
 use Rattle.bolt_core.specs.internal.CarriedTables.{AreNewTables, HasRoomBehind}
@@ -367,6 +368,12 @@ new_tables-requires-clause-low c =
     (standing at.In_ok-start) c.in_ok-start.start (starting at.In_ok-start) c.in_ok-plan.plan.order.items
     c.in_ok-map.map c.in_ok-map.emitted c.in_ok-map.ensures (c.in_ok-plan.ensures.all c.in_ok-parts.ensures.all)
     c.in_ok-tables.tables c.in_ok-tables.ensures.come)
+
+pub new_tables-requires-clause-few : goal.new_tables-requires-clause-few
+new_tables-requires-clause-few c =
+    let many : function_limit < length c.as_slice-funcs.result.now → ⊥ =
+    λ over. c.in_ok-check_sizes.ensures.within 3 (large_code (many_functions refl over)) in
+    omega (arith, many)
 
 pub new_tables-requires-clause-room : goal.new_tables-requires-clause-room
 new_tables-requires-clause-room c =
