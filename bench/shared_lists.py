@@ -8,9 +8,8 @@ Clang that optimizes when linking (`-flto`) makes one table of lists for all uni
 built by Clang 19 at -O2 -g. COMMAND (`./sudrepka` if it isn't given) rewrites each by an empty profile, which leaves
 functions whole, and by the profile of a run, which divides them. A row has the bytes of each table of lists and of
 addresses before and after, with the ratio, and the seconds of the processor that the rewrite took. The status is 0 if
-no table of locations has more than RATIO times its bytes (1.5 if it isn't given) by an empty profile. By the other a
-list has an entry for each stretch of code that a function was divided into, so its growth says how far functions are
-divided, and not how lists are shared. The script wants `clang-19` and `lld-19`, and picolibc.
+no table of locations has more than RATIO times its bytes (1.5 if it isn't given) by either. It wants `clang-19` and
+`lld-19`, and picolibc.
 """
 import argparse
 import math
@@ -103,13 +102,11 @@ def compare(tool, path, profile, label):
 
 
 def compare_both(tool, path):
-    """Rewrites a program by both profiles. Gives the ratio of the tables of locations by the empty one, or infinity if
-    either rewrite fails."""
+    """Rewrites a program by both profiles. Gives the ratios of the tables of locations."""
     profile = f"{path}.profile"
     whole = compare(tool, path, write(profile, ""), "none")
     record(tool, path, [], profile)
-    divided = compare(tool, path, profile, "its run")
-    return whole if divided < math.inf else divided
+    return whole, compare(tool, path, profile, "its run")
 
 
 def main():
@@ -130,9 +127,9 @@ def main():
             path = os.path.join(os.path.abspath(folder), f"units{units}")
             if not os.path.exists(path):
                 build(path, units, front)
-            ratios.append(compare_both(tool, path))
+            ratios.extend(compare_both(tool, path))
     grown = sum(ratio > given.most for ratio in ratios)
-    print(f"{grown} tables of locations have more than {given.most} times their bytes by an empty profile")
+    print(f"{grown} tables of locations have more than {given.most} times their bytes")
     return 1 if grown else 0
 
 
